@@ -1,13 +1,16 @@
-//! Slices, blocks, paths, numbers and sets of blocks: what every crate of the cache stands on.
+//! Slices, blocks, paths, numbers, checksums and sets of blocks: what every crate of the cache stands on.
 #![tactic(auto)]
 
 mod block;
+mod cinfo;
+pub mod crc;
 mod memory;
 mod number;
 mod path;
 mod pieces;
 
 pub use block::{Part, Piece, block_count, block_len, slice};
+pub use cinfo::cinfo_says_one_thing;
 pub use memory::Memory;
 pub use number::{decimal, size};
 pub use path::{Path, PathRefusal};
