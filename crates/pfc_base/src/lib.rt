@@ -8,6 +8,7 @@ mod memory;
 mod number;
 mod path;
 mod pieces;
+mod text;
 
 pub use block::{Part, Piece, block_count, block_len, slice};
 pub use cinfo::cinfo_says_one_thing;
@@ -15,3 +16,4 @@ pub use memory::Memory;
 pub use number::{decimal, size};
 pub use path::{Path, PathRefusal};
 pub use pieces::next_piece;
+pub use text::{push_number, push_word};

@@ -1,0 +1,14 @@
+//! The outside as traits: the world's files, links to them, what is known of a file, sources, sinks and hosts.
+#![tactic(auto)]
+
+mod host;
+mod known;
+mod origin;
+mod refusal;
+mod text;
+
+pub use host::{Host, Sink, Source, Sources};
+pub use known::{Block, Known};
+pub use origin::{Origin, World};
+pub use refusal::{Fault, Refusal};
+pub use text::{read_text, write_text};
