@@ -5,3 +5,4 @@ pub mod Crc
 pub mod Number
 pub mod Path
 pub mod Pieces
+pub mod Words
