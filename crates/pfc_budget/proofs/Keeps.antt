@@ -7,7 +7,7 @@ use lib.ListN.{get_elem?}
 use Rattle.atomic_table.specs.Table.{State, step, keeps, stepped, Allows, Splits, Joins, opening}
 use Rattle.atomic_table.proofs.Lists.{at_set, at_snoc}
 use Rattle.pfc_budget.specs.declared.rule.View.{View}
-use Rattle.pfc_budget.specs.Rule.{view, total, held_of, pending_of, places_of, Fits, IsBudget, Sat, Shows, Claimed, Withdrawn, Given, Loaded, keeper, newcomer, joined}
+use Rattle.pfc_budget.specs.Rule.{view, total, held_of, pending_of, places_of, Fits, IsBudget, Sitter, Shows, Claimed, Withdrawn, Given, Loaded, keeper, newcomer, joined}
 
 total_set : (f : View → ℕ) (l : List View) (i : ℕ) (v w : View) → get_elem? l i ≡ some v → total f (set l i w) + f v ≡ total f l + f w
 total_set f [] i v w e = absurd (some-ne-none v (sym e))
@@ -94,7 +94,7 @@ module _ (limit : ℕ) (s : State (Unit {0}) View) (r : IsBudget limit s) (id : 
 fits_view : (limit held pending places : ℕ) → 0 < places → pending ≤ 16777216 → Fits limit (view limit held pending places)
 fits_view limit held pending places live small = record { one_limit = λ _. refl; small = small; spent = λ none_left. absurd (omega arith) }
 
-module _ (limit slots id : ℕ) (me : Sat) (live : 0 < me.0.places) where
+module _ (limit slots id : ℕ) (me : Sitter) (live : 0 < me.0.places) where
   pub claims : (want : ℕ) → me.0.pending ≡ 0 → want ≤ 16777216 → Allows (IsBudget limit) slots id me 0 (λ n. (n + want) % 2 ^ 64) (Claimed (step slots 0 want 0 none) me)
   claims want idle modest s r _ at _ =
       let n : ℕ = slice_index s.words 0 in let v = me.0 in let same : v.limit ≡ limit = (r.each id v at).one_limit live in let low = small_word limit s r in
