@@ -155,10 +155,7 @@ impl BlockSet {
         if first_place(&words, u64::from(bound), true).is_some() {
             return Ok(None);
         }
-        Ok(Some(BlockSet {
-            words,
-            bound,
-        }))
+        Ok(Some(BlockSet { words, bound }))
     }
 }
 

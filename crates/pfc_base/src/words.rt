@@ -36,7 +36,9 @@ pub fn ones(words: &[u64]) -> u64
 fn equal_in_eight(words: &[u64; 8], word: u64) -> u32
     ensures { result ≡ prefix_len (λ w. w == word) words.now }
 {
-    let others = u64x8::from_array(*words).simd_ne(u64x8::splat(word)).to_bitmask();
+    let others = u64x8::from_array(*words)
+        .simd_ne(u64x8::splat(word))
+        .to_bitmask();
     if others == 0 {
         8
     } else {
@@ -155,7 +157,13 @@ pub fn below(place: Option<u64>, bound: u32) -> Option<u32>
 {
     match place {
         None => None,
-        Some(i) => { if i < u64::from(bound) { Some(i as u32) } else { None } }
+        Some(i) => {
+            if i < u64::from(bound) {
+                Some(i as u32)
+            } else {
+                None
+            }
+        }
     }
 }
 
@@ -171,7 +179,8 @@ pub fn append_bytes(words: &[u64], count: usize, into: &mut Vec<u8>) -> Result<(
         into.extend_from_slice(&w.to_le_bytes()).unwrap();
     }
     if let [last, ..] = rest {
-        into.extend_from_slice(&last.to_le_bytes()[..count % 8]).unwrap();
+        into.extend_from_slice(&last.to_le_bytes()[..count % 8])
+            .unwrap();
     }
     Ok(())
 }

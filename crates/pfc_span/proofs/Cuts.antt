@@ -1,12 +1,12 @@
 -- Cuts of a file at the ends of its blocks.
-use Rattle.std.proofs.Common.{◌≡◌, ℕ, ◌+◌, ◌-◌, ◌*◌, ◌/◌, ◌%◌, ◌^◌, ◌<◌, ◌≤◌, List, [], ◌∷◌, ◌++◌, length, take, drop, min, refl, sym, ap, ◌∙◌, arith, length-drop}
+use Rattle.std.proofs.Common.{◌≡◌, ℕ, ◌+◌, ◌-◌, ◌*◌, ◌/◌, ◌%◌, ◌<◌, ◌≤◌, List, [], ◌∷◌, ◌++◌, length, take, drop, min, sym, ap, ◌∙◌, arith, length-drop}
 use Rattle.std.specs.List.{All, flat_map}
 use Rattle.std.proofs.lemmas.Grind.{flat_map-append}
 use Rattle.std.proofs.lemmas.List.{take_min, append-nil}
 use Rattle.std.proofs.lemmas.List.Elements.{All-nil, All-push}
-use Rattle.std.proofs.lemmas.Nat.{le-div, div_below, mod_below, div-add-mod'}
+use Rattle.std.proofs.lemmas.Nat.{le-div, div-add-mod'}
 use Rattle.std.proofs.Math.Seq.{take-add}
-use Rattle.pfc_base.specs.Block.{slice_of, block_of, count_of, block_len_of, IsPartOf}
+use Rattle.pfc_base.specs.Block.{slice_of, block_of, count_of, IsPartOf}
 use Rattle.pfc_base.specs.declared.block.Part.{Part}
 use Rattle.pfc_base.specs.declared.block.Piece.{Piece}
 use Rattle.pfc_base.proofs.Lists.{drop-take, take-take_min, drop-drop}
@@ -59,16 +59,16 @@ pub tiles-more : (size k off done len : ℕ) (parts : List Part) (part : Part) �
 tiles-more size k off done len parts part some is cut = record {
   inside = All-push (IsPartOf size k) parts part is.inside (part-of_cut size k (off + done) len part some cut);
   bytes = λ file long.
-    flat_map-append (bytes_of_part file k) parts (part ∷ [])
-    ∙ (λ i. is.bytes file long i ++ append-nil (bytes_of_part file k part) i)
-    ∙ ap (λ b. slice_of file off done ++ b) (bytes-of_cut file size k (off + done) len part cut ∙ ap (take len) (sym (drop-drop done off file)))
-    ∙ sym (take-add done len (drop off file));
+      flat_map-append (bytes_of_part file k) parts (part ∷ [])
+      ∙ (λ i. is.bytes file long i ++ append-nil (bytes_of_part file k part) i)
+      ∙ ap (λ b. slice_of file off done ++ b) (bytes-of_cut file size k (off + done) len part cut ∙ ap (take len) (sym (drop-drop done off file)))
+      ∙ sym (take-add done len (drop off file));
 }
 
 pub tiles-all : (size k : ℕ) (piece : Piece) (done : ℕ) (parts : List Part) → done ≡ min piece.len (size - piece.off) → TilesFirst size k piece.off done parts → Tiles size k piece parts
 tiles-all size k piece done parts e is = record {
   inside = is.inside;
   bytes = λ file long.
-    let rest : done ≡ min piece.len (length (drop piece.off file)) = e ∙ ap (λ n. min piece.len n) (ap (λ s. s - piece.off) (sym long) ∙ sym (length-drop piece.off file)) in
-    is.bytes file long ∙ ap (λ n. take n (drop piece.off file)) rest ∙ take_min piece.len (drop piece.off file);
+      let rest : done ≡ min piece.len (length (drop piece.off file)) = e ∙ ap (λ n. min piece.len n) (ap (λ s. s - piece.off) (sym long) ∙ sym (length-drop piece.off file)) in
+      is.bytes file long ∙ ap (λ n. take n (drop piece.off file)) rest ∙ take_min piece.len (drop piece.off file);
 }

@@ -1,9 +1,9 @@
 -- Parts beside the places of their pieces.
-use Rattle.std.proofs.Common.{◌≡◌, ◌≢◌, ◌==◌, ℕ, zero, suc, ◌+◌, ◌<◌, ◌≤◌, Bool, true, false, cond, List, [], ◌∷◌, ◌++◌, length, get_or, map, filter, Some, refl, sym, ap, ◌∙◌, arith, subst, append_assoc, inl, inr}
+use Rattle.std.proofs.Common.{◌≡◌, ◌≢◌, ◌==◌, ℕ, zero, suc, ◌+◌, ◌<◌, ◌≤◌, List, [], ◌∷◌, ◌++◌, length, map, filter, Some, refl, sym, ap, ◌∙◌, arith, subst, append_assoc, inl, inr}
 use Rattle.std.specs.List.{All, AllPairs, slice_get}
-use Rattle.std.proofs.lemmas.Bool.{cases_eq, eq-eqb, ne_eqb, cases_lt}
+use Rattle.std.proofs.lemmas.Bool.{cases_eq, eq-eqb, ne_eqb}
 use Rattle.std.proofs.lemmas.List.{append-nil, map-append}
-use Rattle.std.proofs.lemmas.List.Elements.{All-nil, All-head, All-tail, All-push, All-append, All-map, All-weaker, All-from_get_or, filter-append}
+use Rattle.std.proofs.lemmas.List.Elements.{All-nil, All-head, All-tail, All-push, All-append, All-map, All-weaker, filter-append}
 use Rattle.std.proofs.lemmas.List.Quantifiers.{all_pairs_push}
 use Rattle.pfc_base.specs.declared.block.Part.{Part}
 use Rattle.pfc_base.specs.declared.block.Piece.{Piece}
@@ -71,23 +71,23 @@ pub below-more : (size k : ℕ) (pieces : List Piece) (n : ℕ) (placed : List (
     TileBelow size k pieces n placed → Tiles size k piece parts → TileBelow size k pieces (n + 1) (placed ++ beside n parts)
 below-more size k pieces n placed piece parts here is tiles = record {
   places = All-append (λ x. x.0 < n + 1) placed (beside n parts)
-    (All-weaker (λ x. x.0 < n) (λ x. x.0 < n + 1) (λ x h. omega arith) placed is.places)
-    (All-map (λ x. x.0 < n + 1) (λ part. (n, part)) parts (λ j d h. omega arith));
+      (All-weaker (λ x. x.0 < n) (λ x. x.0 < n + 1) (λ x h. omega arith) placed is.places)
+      (All-map (λ x. x.0 < n + 1) (λ part. (n, part)) parts (λ j d h. omega arith));
   in_order = in_order-append placed n parts is.in_order (All-weaker (λ x. x.0 < n) (λ x. x.0 ≤ n) (λ x h. omega arith) placed is.places);
   tile = λ i p h at. elim (cases_eq i n) [
     | inl e ↦
-      let same : piece ≡ p = some-same piece p (sym here ∙ ap (slice_get pieces) (sym e) ∙ at) in
-      let none = parts_of-below n placed is.places in
-      let all : parts ≡ parts_of i (placed ++ beside n parts) =
+        let same : piece ≡ p = some-same piece p (sym here ∙ ap (slice_get pieces) (sym e) ∙ at) in
+        let none = parts_of-below n placed is.places in
+        let all : parts ≡ parts_of i (placed ++ beside n parts) =
         sym (parts_of-beside_same n parts) ∙ ap (λ ps. ps ++ parts_of n (beside n parts)) (sym none) ∙ sym (parts_of-append n placed (beside n parts))
         ∙ ap (λ m. parts_of m (placed ++ beside n parts)) (sym e) in
-      let P : Piece → List Part → Type 0 = λ q ps. Tiles size k q ps in
-      subst (P p) all (subst (λ q. P q parts) same tiles)
+        let P : Piece → List Part → Type 0 = λ q ps. Tiles size k q ps in
+        subst (P p) all (subst (λ q. P q parts) same tiles)
     | inr ne ↦
-      let other = parts_of-beside_other i n parts (λ e. ne (sym e)) in
-      let all : parts_of i placed ≡ parts_of i (placed ++ beside n parts) =
+        let other = parts_of-beside_other i n parts (λ e. ne (sym e)) in
+        let all : parts_of i placed ≡ parts_of i (placed ++ beside n parts) =
         sym (append-nil (parts_of i placed)) ∙ ap (λ ps. parts_of i placed ++ ps) (sym other) ∙ sym (parts_of-append i placed (beside n parts)) in
-      let P : List Part → Type 0 = λ ps. Tiles size k p ps in
-      subst P all (is.tile i p (omega (arith, ne)) at)
+        let P : List Part → Type 0 = λ ps. Tiles size k p ps in
+        subst P all (is.tile i p (omega (arith, ne)) at)
   ];
 }

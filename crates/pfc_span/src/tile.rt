@@ -6,7 +6,13 @@ use pfc_base::{Memory, Part, Piece};
 use std::alloc::Global;
 
 /// Appends the parts of one piece, each beside the piece's place.
-fn push_parts(placed: &mut Vec<(u32, Part)>, place: u32, piece: Piece, size: u64, k: u64) -> Result<(), Memory>
+fn push_parts(
+    placed: &mut Vec<(u32, Part)>,
+    place: u32,
+    piece: Piece,
+    size: u64,
+    k: u64,
+) -> Result<(), Memory>
     requires size { size < 2 ^ 44 }
     requires least { 4096 ≤ k }
     requires most { k ≤ 16777216 }
@@ -53,19 +59,59 @@ mod tests {
     #[test]
     fn cuts_at_the_ends_of_blocks_and_of_the_file(rt: HostRuntime) -> Result<(), Fail> {
         let pieces = [
-            Piece { off: 4000, len: 200 },
-            Piece { off: 9000, len: 5000 },
+            Piece {
+                off: 4000,
+                len: 200,
+            },
+            Piece {
+                off: 9000,
+                len: 5000,
+            },
             Piece { off: 5, len: 0 },
-            Piece { off: 10000, len: 10 },
-            Piece { off: u64::MAX, len: u64::MAX },
+            Piece {
+                off: 10000,
+                len: 10,
+            },
+            Piece {
+                off: u64::MAX,
+                len: u64::MAX,
+            },
             Piece { off: 0, len: 4096 },
         ];
         let placed = parts(rt.alloc(), &pieces, 10000, 4096)?;
         let expected = [
-            (0, Part { block: 0, from: 4000, len: 96 }),
-            (0, Part { block: 1, from: 0, len: 104 }),
-            (1, Part { block: 2, from: 808, len: 1000 }),
-            (5, Part { block: 0, from: 0, len: 4096 }),
+            (
+                0,
+                Part {
+                    block: 0,
+                    from: 4000,
+                    len: 96,
+                },
+            ),
+            (
+                0,
+                Part {
+                    block: 1,
+                    from: 0,
+                    len: 104,
+                },
+            ),
+            (
+                1,
+                Part {
+                    block: 2,
+                    from: 808,
+                    len: 1000,
+                },
+            ),
+            (
+                5,
+                Part {
+                    block: 0,
+                    from: 0,
+                    len: 4096,
+                },
+            ),
         ];
         assert_eq!(rt; placed.as_slice(), expected.as_slice());
         Ok(())

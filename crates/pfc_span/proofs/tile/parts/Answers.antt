@@ -1,4 +1,4 @@
-use Rattle.std.proofs.Common.{◌≡◌, ◌+◌, ◌∙◌, sym, arith, subst, ℕ, length, get_or}
+use Rattle.std.proofs.Common.{◌≡◌, arith, subst, ℕ, length, get_or}
 use Rattle.pfc_span.proofs.Placed.{below-more, each-from_below, TileBelow}
 use Rattle.std.proofs.lemmas.Option.{slice_get-get_or}
 use Rattle.pfc_base.specs.declared.block.Piece.{Piece}

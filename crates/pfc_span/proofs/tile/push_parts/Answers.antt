@@ -1,6 +1,6 @@
-use Rattle.std.proofs.Common.{◌≡◌, ◌+◌, ◌-◌, ◌*◌, ◌/◌, ◌%◌, ◌^◌, ◌<◌, ◌≤◌, ◌++◌, ℕ, List, [], ◌∷◌, min, refl, sym, ap, ◌∙◌, subst, arith, append_assoc}
+use Rattle.std.proofs.Common.{◌≡◌, ◌+◌, ◌-◌, ◌/◌, ◌%◌, ◌^◌, ◌<◌, ◌++◌, ℕ, [], ◌∷◌, min, refl, sym, ap, ◌∙◌, subst, arith, append_assoc}
 use Rattle.std.proofs.lemmas.List.{append-nil, map-append}
-use Rattle.std.proofs.lemmas.Nat.{div_below, mod_below, mul-le}
+use Rattle.std.proofs.lemmas.Nat.{div_below, mod_below}
 use Rattle.pfc_base.specs.declared.block.Part.{Part}
 use Rattle.pfc_span.proofs.Cuts.{IsCut, TilesFirst, tiles-none, tiles-more, tiles-all}
 use Rattle.pfc_span.proofs.Placed.{beside}
@@ -42,7 +42,7 @@ loop-left-preserved c =
       placed = (
         before.0 ++ part ∷ [],
         c.in_ok-push.ensures.items ∙ ap (λ b. b ++ (c.args.place, part) ∷ []) before.1 ∙ append_assoc old (beside c.args.place before.0) ((c.args.place, part) ∷ [])
-          ∙ ap (λ b. old ++ b) (sym (map-append (λ p. (c.args.place, p)) before.0 (part ∷ []))),
+            ∙ ap (λ b. old ++ b) (sym (map-append (λ p. (c.args.place, p)) before.0 (part ∷ []))),
         subst Q done tiled,
       );
       start = omega (arith, c.loop-left.invariant.start);
