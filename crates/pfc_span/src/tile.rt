@@ -1,3 +1,4 @@
+// Pieces of a file, cut at the ends of its blocks.
 ghost use Rattle.std.specs.Prelude.{◌≡◌, ◌<◌, ◌≤◌, ◌^◌, ◌++◌, List, length, map, IfOk, OnOk};
 ghost use Rattle.pfc_base.specs.declared.block.Part.{Part};
 ghost use Rattle.pfc_span.specs.Tiling.{Tiles, TileEach};
@@ -20,6 +21,10 @@ fn push_parts(
 {
     let mut from = piece.off;
     let mut left = piece.len.min(size.saturating_sub(piece.off));
+    if left > 0 {
+        // Beside whole blocks there may be a part of one at either end.
+        placed.reserve((left / k + 2) as usize)?;
+    }
     while left > 0 {
         let start = from % k;
         let len = left.min(k - start);
@@ -36,7 +41,8 @@ fn push_parts(
 }
 
 /// The parts of these pieces of a file of `size` bytes in blocks of `k`, piece by piece and in the file's order,
-/// each beside the place of its piece. What a piece has past the file's end gives no part.
+/// each beside the place of its piece. What a piece has past the file's end gives no part. Blocks have 4096 bytes
+/// at least, so that a file has no more of them than a `u32` can number.
 pub fn parts(alloc: Global, pieces: &[Piece], size: u64, k: u64) -> Result<Vec<(u32, Part)>, Memory>
     requires size { size < 2 ^ 44 }
     requires least { 4096 ≤ k }

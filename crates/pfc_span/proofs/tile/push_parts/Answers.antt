@@ -5,13 +5,19 @@ use Rattle.pfc_base.specs.declared.block.Part.{Part}
 use Rattle.pfc_span.proofs.Cuts.{IsCut, TilesFirst, tiles-none, tiles-more, tiles-all}
 use Rattle.pfc_span.proofs.Placed.{beside}
 use Rattle.pfc_span.proofs.tile.push_parts.Goals as goal
+use Rattle.pfc_span.proofs.tile.push_parts.Goals.{then-left-gt0+in_ok-reserve, else-left-gt0}
 
 pub loop-left-init : goal.loop-left-init
-loop-left-init c = record {
-  placed = ([], sym (append-nil c.args.placed.now.items), tiles-none c.args.size c.args.k c.args.piece.off (c.args.piece.off - c.args.piece.off) (omega arith));
-  start = omega arith;
-  whole = omega (arith, c.min-left.ensures, c.saturating_sub.ensures);
-}
+loop-left-init c =
+    let kept : c.if-left-gt0.placed.items ≡ c.args.placed.now.items = elim c.if-left-gt0.branch [
+      | then-left-gt0+in_ok-reserve w ↦ rw w.placed-is w.reserve.ensures.items
+      | else-left-gt0 w ↦ rw w.placed-is
+    ] in
+    record {
+      placed = ([], kept ∙ sym (append-nil c.args.placed.now.items), tiles-none c.args.size c.args.k c.args.piece.off (c.args.piece.off - c.args.piece.off) (omega arith));
+      start = omega arith;
+      whole = omega (arith, c.min-left.ensures, c.saturating_sub.ensures);
+    }
 
 pub loop-left-preserved : goal.loop-left-preserved
 loop-left-preserved c =

@@ -6,7 +6,7 @@ use Rattle.pfc_span.proofs.tile.push_parts.Given as goal
 
 abbrev pub invariant-loop-left : goal.invariant-loop-left
 invariant-loop-left l = record {
-  placed : (parts : List Part) × (l.placed.items ≡ l.initial.placed.items ++ beside l.place parts) × TilesFirst l.size l.k l.fn.piece.off (l.from - l.fn.piece.off) parts;
+  placed : (parts : List Part) × (l.placed.items ≡ l.fn.placed.items ++ beside l.place parts) × TilesFirst l.size l.k l.fn.piece.off (l.from - l.fn.piece.off) parts;
   start : l.fn.piece.off ≤ l.from;
   whole : l.from - l.fn.piece.off + l.left ≡ min l.fn.piece.len (l.size - l.fn.piece.off);
 }
