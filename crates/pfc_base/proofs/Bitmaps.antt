@@ -1,11 +1,11 @@
 -- Bitmaps of sets: their words, and that a bitmap and its set determine each other.
-use Rattle.std.proofs.Common.{◌≡◌, ◌==◌, ℕ, ◌+◌, ◌-◌, ◌*◌, ◌/◌, ◌%◌, ◌^◌, ◌<◌, ◌≤◌, Bool, true, false, not, List, ◌++◌, Option, Some, None, is_some, inl, inr, length, slice_index, take, replicate, refl, sym, ap, ◌∙◌, arith, length-append}
+use Rattle.std.proofs.Common.{◌≡◌, ℕ, ◌+◌, ◌-◌, ◌*◌, ◌/◌, ◌%◌, ◌^◌, ◌<◌, ◌≤◌, Bool, true, false, List, ◌++◌, Option, Some, None, is_some, inl, inr, length, slice_index, take, replicate, refl, sym, ap, ◌∙◌, arith, length-append}
 use Rattle.std.specs.Int.{bit_at}
 use Rattle.std.proofs.lemmas.List.{length-take-le, length-replicate, get_or_past}
 use Rattle.std.proofs.lemmas.Bool.{cases_lt, both_ways, eqb-true}
 use Rattle.std.proofs.lemmas.Nat.Bits.{bit_at-lt, bit_at-zero}
-use Rattle.pfc_base.specs.Words.{bit_of, bit_in, bytes_of, has_bit, IsFirst}
-use Rattle.pfc_base.specs.BlockSet.{is_member, members_of, IsBitmap, HasPadding, AreKept, AreWords}
+use Rattle.pfc_base.specs.Words.{bit_in, bytes_of, has_bit, IsFirst}
+use Rattle.pfc_base.specs.BlockSet.{members_of, IsBitmap, HasPadding, AreKept, AreWords}
 use Rattle.pfc_base.proofs.Places.{bit-unequal_one}
 use Rattle.pfc_base.proofs.Bits.{same_from_bits_in}
 use Rattle.pfc_base.proofs.Bytes.{length-bytes_of, bit_in-bytes_of, bit_in-take, bit_in-padded}

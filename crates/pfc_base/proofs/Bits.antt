@@ -11,7 +11,6 @@ use Rattle.std.proofs.lemmas.List.Sums.{sum_by-append, sum_by-cons}
 use Rattle.std.proofs.lemmas.Nat.{div-mul-add, mod-mul-add, mod-pow-add, shr_split, ones_cat, pow_pos, mod_below, ones_le_self, zero_from_ones}
 use Rattle.std.proofs.lemmas.Nat.Bits.{bit_at-lt, bit_at-zero, bit_at_above, bit_at_cat_low, bit_at_cat_high, same_from_bits, same_from_bits_below}
 use Rattle.pfc_base.specs.Words.{bit_of, bit_in}
-use Rattle.pfc_base.proofs.Places.{bit-tested}
 
 pub bit_in-at : (width : ℕ) (words : List ℕ) (k i : ℕ) → i < width → bit_in width words (k * width + i) ≡ bit_at (slice_index words k) i
 bit_in-at width words k i h = λ m. bit_at (slice_index words (div-mul-add k width i h m)) (mod-mul-add k width i h m)
@@ -34,13 +33,13 @@ pub bit_at-number : (words : List ℕ) (i : ℕ) → ((k : ℕ) → slice_index 
 bit_at-number [] i fits = bit_at-zero i ∙ sym (bit_at-zero (i % 64))
 bit_at-number (w ∷ ws) i fits = ap (λ n. bit_at n i) (number-cons w ws) ∙ elim (cases_lt i 64) [
   | inl h ↦
-    let word : i / 64 ≡ 0 = omega arith in
-    let place : i % 64 ≡ i = omega arith in
-    bit_at_cat_low (number ws) 64 w i h ∙ (λ m. bit_at (slice_index (w ∷ ws) (sym word m)) (sym place m))
+      let word : i / 64 ≡ 0 = omega arith in
+      let place : i % 64 ≡ i = omega arith in
+      bit_at_cat_low (number ws) 64 w i h ∙ (λ m. bit_at (slice_index (w ∷ ws) (sym word m)) (sym place m))
   | inr h ↦
-    let word : i / 64 ≡ suc ((i - 64) / 64) = omega arith in
-    let place : i % 64 ≡ (i - 64) % 64 = omega arith in
-    bit_at_cat_high (number ws) 64 w i (fits 0) h ∙ bit_at-number ws (i - 64) (λ k. fits (suc k)) ∙ (λ m. bit_at (slice_index (w ∷ ws) (sym word m)) (sym place m))
+      let word : i / 64 ≡ suc ((i - 64) / 64) = omega arith in
+      let place : i % 64 ≡ (i - 64) % 64 = omega arith in
+      bit_at_cat_high (number ws) 64 w i (fits 0) h ∙ bit_at-number ws (i - 64) (λ k. fits (suc k)) ∙ (λ m. bit_at (slice_index (w ∷ ws) (sym word m)) (sym place m))
 ]
 
 count_ones-zero : count_ones 0 ≡ 0

@@ -1,5 +1,5 @@
 -- The bytes of words, and their bits.
-use Rattle.std.proofs.Common.{◌≡◌, ℕ, zero, suc, ◌+◌, ◌-◌, ◌*◌, ◌/◌, ◌%◌, ◌^◌, ◌<◌, ◌≤◌, List, [], ◌∷◌, ◌++◌, length, slice_index, get_or, take, drop, replicate, min, refl, sym, ap, ◌∙◌, arith, inl, inr, w64, length-append, append_assoc, take_all}
+use Rattle.std.proofs.Common.{◌≡◌, ℕ, zero, suc, ◌+◌, ◌-◌, ◌*◌, ◌/◌, ◌%◌, ◌^◌, ◌<◌, ◌≤◌, List, [], ◌∷◌, ◌++◌, length, slice_index, take, drop, replicate, refl, sym, ap, ◌∙◌, arith, inl, inr, w64, length-append, append_assoc, take_all}
 use Rattle.std.specs.Int.{bit_at, to_le_bytes}
 use Rattle.std.proofs.lemmas.Bool.{cases_lt}
 use Rattle.std.proofs.lemmas.List.{get_or_past, get_or-take, get_or_append_left, get_or-append_right, get_or-replicate, length-replicate, length-take-le, take-append-drop, take-append-le, append-nil, get_or-drop}
@@ -40,18 +40,18 @@ pub bit_in-bytes_of : (words : List ℕ) (i : ℕ) → bit_in 8 (bytes_of words)
 bit_in-bytes_of [] i = bit_at-zero (i % 8) ∙ sym (bit_at-zero (i % 64))
 bit_in-bytes_of (w ∷ ws) i = elim (cases_lt i 64) [
   | inl h ↦
-    let word : 0 ≡ i / 64 = omega arith in
-    let place : i ≡ i % 64 = omega arith in
-    ap (λ b. bit_at b (i % 8)) (get_or_append_left (to_le_bytes w64 w) (bytes_of ws) 0 (i / 8) (omega arith))
-    ∙ bit_in-to_le_bytes w i h ∙ (λ m. bit_at (slice_index (w ∷ ws) (word m)) (place m))
+      let word : 0 ≡ i / 64 = omega arith in
+      let place : i ≡ i % 64 = omega arith in
+      ap (λ b. bit_at b (i % 8)) (get_or_append_left (to_le_bytes w64 w) (bytes_of ws) 0 (i / 8) (omega arith))
+      ∙ bit_in-to_le_bytes w i h ∙ (λ m. bit_at (slice_index (w ∷ ws) (word m)) (place m))
   | inr h ↦
-    let byte : i / 8 - 8 ≡ (i - 64) / 8 = omega arith in
-    let bit : i % 8 ≡ (i - 64) % 8 = omega arith in
-    let word : suc ((i - 64) / 64) ≡ i / 64 = omega arith in
-    let place : (i - 64) % 64 ≡ i % 64 = omega arith in
-    ap (λ b. bit_at b (i % 8)) (get_or-append_right (to_le_bytes w64 w) (bytes_of ws) 8 (i / 8) 0 refl (omega arith))
-    ∙ (λ m. bit_at (slice_index (bytes_of ws) (byte m)) (bit m))
-    ∙ bit_in-bytes_of ws (i - 64) ∙ (λ m. bit_at (slice_index (w ∷ ws) (word m)) (place m))
+      let byte : i / 8 - 8 ≡ (i - 64) / 8 = omega arith in
+      let bit : i % 8 ≡ (i - 64) % 8 = omega arith in
+      let word : suc ((i - 64) / 64) ≡ i / 64 = omega arith in
+      let place : (i - 64) % 64 ≡ i % 64 = omega arith in
+      ap (λ b. bit_at b (i % 8)) (get_or-append_right (to_le_bytes w64 w) (bytes_of ws) 8 (i / 8) 0 refl (omega arith))
+      ∙ (λ m. bit_at (slice_index (bytes_of ws) (byte m)) (bit m))
+      ∙ bit_in-bytes_of ws (i - 64) ∙ (λ m. bit_at (slice_index (w ∷ ws) (word m)) (place m))
 ]
 
 pub bit_in-take : (count : ℕ) (bytes : List ℕ) (i : ℕ) → i < 8 * count → bit_in 8 (take count bytes) i ≡ bit_in 8 bytes i
@@ -94,9 +94,9 @@ appended-whole words whole rest old items count n front back h empty done writte
     let e : count ≡ 8 * (count / 8) + count % 8 = omega arith in
     let none : take (count % 8) (bytes_of (drop (count / 8) words)) ≡ [] = ap (λ b. take (count % 8) (bytes_of b)) (sym back ∙ length-none rest empty) ∙ take-nil (count % 8) in
     written ∙ ap (λ b. old ++ b) (ap bytes_of (take_all n whole done ∙ front)
-      ∙ sym (append-nil (bytes_of (take (count / 8) words)))
-      ∙ ap (λ b. bytes_of (take (count / 8) words) ++ b) (sym none)
-      ∙ sym (split-bytes words (count / 8) (count % 8) h) ∙ ap (λ m. take m (bytes_of words)) (sym e))
+    ∙ sym (append-nil (bytes_of (take (count / 8) words)))
+    ∙ ap (λ b. bytes_of (take (count / 8) words) ++ b) (sym none)
+    ∙ sym (split-bytes words (count / 8) (count % 8) h) ∙ ap (λ m. take m (bytes_of words)) (sym e))
 
 pub appended-part : (words whole rest old items items' : List ℕ) (count n : ℕ) → whole ≡ take (count / 8) words → rest ≡ drop (count / 8) words → count / 8 ≤ length words → 0 < length rest →
     length whole ≤ n → items ≡ old ++ bytes_of (take n whole) → items' ≡ items ++ take (count % 8) (to_le_bytes w64 (slice_index rest 0)) → items' ≡ old ++ take count (bytes_of words)
@@ -107,7 +107,7 @@ appended-part words whole rest old items items' count n front back h some done w
     last ∙ ap (λ b. b ++ take (count % 8) (to_le_bytes w64 (slice_index rest 0))) (written ∙ ap (λ b. old ++ b) (ap bytes_of (take_all n whole done ∙ front)))
     ∙ append_assoc old first (take (count % 8) (to_le_bytes w64 (slice_index rest 0)))
     ∙ ap (λ b. old ++ b) (ap (λ b. first ++ b) (part ∙ ap (λ b. take (count % 8) (bytes_of b)) back)
-      ∙ sym (split-bytes words (count / 8) (count % 8) h) ∙ ap (λ m. take m (bytes_of words)) (sym e))
+    ∙ sym (split-bytes words (count / 8) (count % 8) h) ∙ ap (λ m. take m (bytes_of words)) (sym e))
 
 -- one word more
 pub bytes_of-push : (words : List ℕ) (w : ℕ) (eight more : List ℕ) → to_le_bytes w64 w ≡ eight → bytes_of (words ++ w ∷ []) ++ more ≡ bytes_of words ++ (eight ++ more)
@@ -120,8 +120,8 @@ fits-push words w top some fits h k = elim (cases_lt k (length words)) [
   | inl low ↦ omega (arith, get_or_append_left words (w ∷ []) 0 k low, fits k)
   | inr high ↦ elim (cases_lt k (length words + 1)) [
     | inl last ↦
-      let place : k - length words ≡ 0 = omega arith in
-      omega (arith, get_or-append_right words (w ∷ []) (length words) k 0 refl high, ap (slice_index (w ∷ [])) place)
+        let place : k - length words ≡ 0 = omega arith in
+        omega (arith, get_or-append_right words (w ∷ []) (length words) k 0 refl high, ap (slice_index (w ∷ [])) place)
     | inr past ↦ omega (arith, get_or_past (words ++ w ∷ []) k 0 (omega (arith, length-append words (w ∷ []))))
   ]
 ]

@@ -1,5 +1,5 @@
 -- The places of a bit in a word and in a list of words.
-use Rattle.std.proofs.Common.{◌≡◌, ◌==◌, ℕ, zero, suc, ◌+◌, ◌-◌, ◌*◌, ◌/◌, ◌%◌, ◌^◌, ◌<◌, ◌≤◌, Bool, true, false, List, length, take, drop, get_or, slice_index, bit_and, if◌then◌else◌, min, refl, sym, ap, ◌∙◌, arith, w64, inl, inr, take_all, length-drop}
+use Rattle.std.proofs.Common.{◌≡◌, ◌==◌, ℕ, zero, suc, ◌+◌, ◌-◌, ◌*◌, ◌/◌, ◌%◌, ◌^◌, ◌<◌, ◌≤◌, Bool, true, false, List, length, drop, get_or, slice_index, bit_and, if◌then◌else◌, min, refl, sym, ap, ◌∙◌, arith, w64, inl, inr, length-drop}
 use Rattle.std.specs.Int.{bit_at, bit_not, trailing_zeros}
 use Rattle.std.specs.List.{prefix_len}
 use Rattle.std.proofs.lemmas.Bool.{cases_lt, both_ways, eqb-true, eqb-false, eq-eqb}
@@ -85,8 +85,8 @@ least-in_word word shown from bit f is some =
       high = lowest.0;
       passes = bit_of-one (bit_at word t == bit_of bit) (sym (is.same t lowest.0) ∙ sym (bit_at-from_place shown from t f inside lowest.0) ∙ lowest.1);
       least = λ i low h. let high : i < 64 = omega (arith, lowest.0) in
-        bit_of-zero (bit_at word i == bit_of bit)
-        (sym (is.same i high) ∙ sym (bit_at-from_place shown from i f low high) ∙ lowest.2 i h);
+          bit_of-zero (bit_at word i == bit_of bit)
+          (sym (is.same i high) ∙ sym (bit_at-from_place shown from i f low high) ∙ lowest.2 i h);
     }
 
 -- the bit at a place of a word
@@ -103,8 +103,8 @@ least-in_words words k from i bit h is = record {
   high = omega (arith, is.high);
   passes = ap (λ b. b == bit_of bit) (bit_in-place words (64 * k + i) k i refl is.high) ∙ is.passes;
   least = λ j low high. let e : j ≡ 64 * k + (j - 64 * k) = omega arith in
-    let below : j - 64 * k < i = omega arith in
-    ap (λ b. b == bit_of bit) (bit_in-place words j k (j - 64 * k) e (omega (arith, is.high))) ∙ is.least (j - 64 * k) (omega arith) below;
+      let below : j - 64 * k < i = omega arith in
+      ap (λ b. b == bit_of bit) (bit_in-place words j k (j - 64 * k) e (omega (arith, is.high))) ∙ is.least (j - 64 * k) (omega arith) below;
 }
 
 pub none-in_words : (words : List ℕ) (k from : ℕ) (bit : Bool) → NonePass (λ i. bit_at (slice_index words k) i == bit_of bit) from 64 →

@@ -1,5 +1,5 @@
 -- The runs of a set, found from its low end on.
-use Rattle.std.proofs.Common.{◌≡◌, ◌≢◌, ◌↔◌, ℕ, ◌+◌, ◌-◌, ◌<◌, ◌≤◌, Bool, true, false, not, List, [], ◌∷◌, ◌++◌, Option, Some, None, unwrap_or, ◌⊎◌, subst, length, get_or, refl, sym, ap, ◌∙◌, arith, inl, inr, length-append}
+use Rattle.std.proofs.Common.{◌≡◌, ◌↔◌, ℕ, ◌+◌, ◌-◌, ◌<◌, ◌≤◌, Bool, true, false, not, List, [], ◌∷◌, ◌++◌, Option, Some, None, unwrap_or, ◌⊎◌, subst, length, get_or, refl, sym, ap, ◌∙◌, arith, inl, inr, length-append}
 use Rattle.std.specs.List.{All, AllPairs, Any}
 use Rattle.std.proofs.lemmas.Bool.{cases_lt, both_ways, not-false, not-true}
 use Rattle.std.proofs.lemmas.List.{get_or_past, get_or_append_left, get_or-append_right}
@@ -58,9 +58,9 @@ any-cases : (i : ℕ) (runs : List (ℕ × ℕ)) (run : ℕ × ℕ) → Any (Hol
 any-cases i runs run (k, old, lt, is, holds) = elim (cases_lt k (length runs)) [
   | inl h ↦ inl (k, old, h, sym (get_or_append_left runs (run ∷ []) old k h) ∙ is, holds)
   | inr h ↦
-    let place : k - length runs ≡ 0 = omega (arith, length-append runs (run ∷ [])) in
-    let same : old ≡ run = sym is ∙ get_or-append_right runs (run ∷ []) (length runs) k old refl h ∙ ap (λ m. get_or (run ∷ []) m old) place in
-    inr (subst (Holds i) same holds)
+      let place : k - length runs ≡ 0 = omega (arith, length-append runs (run ∷ [])) in
+      let same : old ≡ run = sym is ∙ get_or-append_right runs (run ∷ []) (length runs) k old refl h ∙ ap (λ m. get_or (run ∷ []) m old) place in
+      inr (subst (Holds i) same holds)
 ]
 
 past-none : (i : ℕ) (runs : List (ℕ × ℕ)) (set : List Bool) (from : ℕ) → All (λ run. (run.1 < from) × (is_member set from ≡ false)) runs → from ≤ i → Any (Holds i) runs → ⊥
@@ -73,15 +73,15 @@ pub runs-more : (runs : List (ℕ × ℕ)) (set : List Bool) (from first end las
 runs-more runs set from first end last is at ends e = record {
   ordered = All-push (λ run. run.0 ≤ run.1) runs (first, last) is.ordered (omega (arith, ends.after));
   apart = all_pairs_push (λ run later. run.1 + 1 < later.0) runs (first, last) is.apart (λ k d h.
-    let old = is.below k d h in
-    elim (cases_lt from first) [
-      | inl h ↦ omega (arith, old.0)
-      | inr h ↦ absurd (both_ways (is_member set first) (ap (is_member set) (omega (arith, at.low)) ∙ old.1) at.passes)
-    ]);
+      let old = is.below k d h in
+      elim (cases_lt from first) [
+        | inl h ↦ omega (arith, old.0)
+        | inr h ↦ absurd (both_ways (is_member set first) (ap (is_member set) (omega (arith, at.low)) ∙ old.1) at.passes)
+      ]);
   below = All-push (λ run. (run.1 < end) × (is_member set end ≡ false)) runs (first, last)
-    (All-weaker (λ run. (run.1 < from) × (is_member set from ≡ false)) (λ run. (run.1 < end) × (is_member set end ≡ false))
+      (All-weaker (λ run. (run.1 < from) × (is_member set from ≡ false)) (λ run. (run.1 < end) × (is_member set end ≡ false))
       (λ run old. (omega (arith, old.0, at.low, ends.after), ends.absent)) runs is.below)
-    (omega arith, ends.absent);
+      (omega arith, ends.absent);
   covers = λ i h. (
     λ member. elim (cases_lt i from) [
       | inl low ↦ any-old i runs (first, last) ((is.covers i low).0 member)

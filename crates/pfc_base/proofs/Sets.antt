@@ -1,8 +1,7 @@
 -- Sets, and the words in which they are kept.
-use Rattle.std.proofs.Common.{◌≡◌, ◌≢◌, ◌==◌, ◌↔◌, ℕ, zero, suc, ◌+◌, ◌-◌, ◌*◌, ◌/◌, ◌%◌, ◌^◌, ◌<◌, ◌≤◌, Bool, true, false, List, [], ◌∷◌, Option, length, get_or, slice_index, slice_set, map, count_by, sum_by, replicate, bit_and, bit_or, refl, sym, ap, subst, ◌∙◌, arith, inl, inr, w64}
+use Rattle.std.proofs.Common.{◌≡◌, ◌≢◌, ◌==◌, ◌↔◌, ℕ, ◌+◌, ◌*◌, ◌/◌, ◌%◌, ◌^◌, ◌<◌, ◌≤◌, Bool, true, false, List, Option, length, get_or, slice_index, slice_set, count_by, sum_by, replicate, bit_or, refl, sym, ap, subst, ◌∙◌, arith, inl, inr, w64}
 use Rattle.std.specs.Int.{bit_at}
 use Rattle.std.specs.Int.RustNames.{count_ones}
-use Rattle.std.specs.List.{range_with_len}
 use Rattle.std.proofs.lemmas.Bool.{cases_lt, cases_eq}
 use Rattle.std.proofs.lemmas.List.{ext_get_or, get_or_past, get_or-set_same, get_or-set_other, get_or-replicate, length-replicate}
 use Rattle.std.proofs.lemmas.List.FromFn.{length-map-range_with_len, get_or-map-range_with_len}
@@ -90,16 +89,16 @@ words-set words s i is h =
       size = length-set words k new ∙ is.size ∙ ap (λ n. (n + 63) / 64) (sym (length-set s i true));
       bits = λ j. elim (cases_eq j i) [
         | inl e ↦
-          ap (bit_in 64 (set words k new)) e ∙ ap (λ w. bit_at w r) (get_or-set_same words k new 0 in_words) ∙ bit_at_set_same w64 (slice_index words k) r low
-          ∙ ap bit_of (sym (ap (is_member (slice_set s i true)) e ∙ get_or-set_same s i true false h))
+            ap (bit_in 64 (set words k new)) e ∙ ap (λ w. bit_at w r) (get_or-set_same words k new 0 in_words) ∙ bit_at_set_same w64 (slice_index words k) r low
+            ∙ ap bit_of (sym (ap (is_member (slice_set s i true)) e ∙ get_or-set_same s i true false h))
         | inr ne ↦ elim (cases_eq (j / 64) k) [
           | inl e ↦
-            let other : j % 64 ≢ r = λ same. ne (omega arith) in
-            ap (λ m. bit_at (get_or (set words k new) m 0) (j % 64)) e ∙ ap (λ w. bit_at w (j % 64)) (get_or-set_same words k new 0 in_words)
-            ∙ bit_at_set_other w64 (slice_index words k) r low (j % 64) other ∙ ap (λ m. bit_at (slice_index words m) (j % 64)) (sym e)
-            ∙ is.bits j ∙ ap bit_of (sym (get_or-set_other s i j true false ne))
+              let other : j % 64 ≢ r = λ same. ne (omega arith) in
+              ap (λ m. bit_at (get_or (set words k new) m 0) (j % 64)) e ∙ ap (λ w. bit_at w (j % 64)) (get_or-set_same words k new 0 in_words)
+              ∙ bit_at_set_other w64 (slice_index words k) r low (j % 64) other ∙ ap (λ m. bit_at (slice_index words m) (j % 64)) (sym e)
+              ∙ is.bits j ∙ ap bit_of (sym (get_or-set_other s i j true false ne))
           | inr far ↦
-            ap (λ w. bit_at w (j % 64)) (get_or-set_other words k (j / 64) new 0 far) ∙ is.bits j ∙ ap bit_of (sym (get_or-set_other s i j true false ne))
+              ap (λ w. bit_at w (j % 64)) (get_or-set_other words k (j / 64) new 0 far) ∙ is.bits j ∙ ap bit_of (sym (get_or-set_other s i j true false ne))
         ]
       ];
     }
@@ -145,7 +144,7 @@ pub first-of_words : (bit : Bool) (test : Bool → Bool) → ((member : Bool) �
     IsFirst (has_bit shown bit) start (64 * length shown) place → IsFirst (λ i. test (is_member set i)) from (length set) found
 first-of_words bit test says words shown set bound from start place found same at is long cut first =
     let tests : (i : ℕ) → has_bit shown bit i ≡ test (is_member set i) = λ i.
-      ap (λ w. bit_in 64 w i == bit_of bit) same ∙ ap (λ b. b == bit_of bit) (is.bits i) ∙ says (is_member set i) in
+    ap (λ w. bit_in 64 w i == bit_of bit) same ∙ ap (λ b. b == bit_of bit) (is.bits i) ∙ says (is_member set i) in
     let P : (ℕ → Bool) → Type 0 = λ t. IsFirst t start (64 * length shown) place in
     let Q : ℕ → ℕ → Type 0 = λ a b. IsFirst (λ i. test (is_member set i)) a b found in
     let here = cut (λ i. test (is_member set i)) start (64 * length shown) (omega (arith, is.size, ap length same, long)) (subst P (λ j i. tests i j) first) in

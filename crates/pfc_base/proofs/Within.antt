@@ -1,5 +1,5 @@
 -- Words whose set bits are set in other words.
-use Rattle.std.proofs.Common.{◌≡◌, ◌==◌, ◌↔◌, ℕ, suc, zero, ◌+◌, ◌-◌, ◌*◌, ◌/◌, ◌%◌, ◌^◌, ◌<◌, ◌≤◌, Bool, true, false, ◌&&◌, List, [], ◌∷◌, length, slice_index, bit_and, min, refl, sym, ap, ◌∙◌, arith, inl, inr, w64}
+use Rattle.std.proofs.Common.{◌≡◌, ◌==◌, ◌↔◌, ℕ, suc, zero, ◌+◌, ◌-◌, ◌*◌, ◌/◌, ◌%◌, ◌^◌, ◌<◌, Bool, true, List, [], ◌∷◌, length, slice_index, bit_and, min, refl, sym, ap, ◌∙◌, arith, inl, inr, w64}
 use Rattle.std.specs.Int.{bit_at, bit_not}
 use Rattle.std.specs.List.{list_all, zip}
 use Rattle.std.proofs.lemmas.Bool.{cases_lt, and_parts, and_from, eqb-true, eq-eqb}
@@ -54,5 +54,5 @@ within-words low high long fits fits' = (
     | inr past ↦ absurd (omega (arith, sym (ap (λ w. bit_at w (i % 64)) (get_or_past low (i / 64) 0 past) ∙ bit_at-zero (i % 64)) ∙ one))
   ],
   λ bits. all-lack_none low high long (λ k h. none-lacking (slice_index low k) (slice_index high k) (fits k) (fits' k)
-    (λ i below one. sym (bit_in-at 64 high k i below) ∙ bits (k * 64 + i) (bit_in-at 64 low k i below ∙ one))),
+      (λ i below one. sym (bit_in-at 64 high k i below) ∙ bits (k * 64 + i) (bit_in-at 64 low k i below ∙ one))),
 )

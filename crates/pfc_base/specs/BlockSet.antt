@@ -22,7 +22,7 @@ pub record IsBitmap (bytes : List ℕ) (set : List Bool) : Type 0 where
 abbrev pub HasPadding : List ℕ → ℕ → Type 0
 HasPadding bytes bound = (i : ℕ) × (bound ≤ i) × (i < 8 * length bytes) × (bit_in 8 bytes i ≡ 1)
 
--- the same in words of 64 bits
+-- the words of a set: a bit for each number, 64 to a word, low bit first, and no other bit
 pub record AreWords (words : List ℕ) (set : List Bool) : Type 0 where
   pub size : length words ≡ (length set + 63) / 64
   pub bits : (i : ℕ) → bit_in 64 words i ≡ bit_of (is_member set i)

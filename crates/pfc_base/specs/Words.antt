@@ -1,8 +1,9 @@
 -- Bits in lists of words, and the least number that passes a test.
-use Rattle.std.specs.Prelude.{◌≡◌, ◌==◌, ℕ, ◌*◌, ◌/◌, ◌%◌, ◌<◌, ◌≤◌, Bool, true, false, List, slice_index, Option, Some, None, if◌then◌else◌}
+use Rattle.std.specs.Prelude.{◌≡◌, ◌==◌, ℕ, ◌/◌, ◌%◌, ◌<◌, ◌≤◌, Bool, true, false, List, slice_index, Option, Some, None, if◌then◌else◌}
 use Rattle.std.specs.Int.{bit_at, to_le_bytes, w64}
 use Rattle.std.specs.List.{flat_map}
 
+-- 1 for a test that passes
 abbrev pub bit_of : Bool → ℕ
 bit_of test = if test then 1 else 0
 
@@ -22,13 +23,14 @@ has_bit words bit i = bit_in 64 words i == bit_of bit
 abbrev pub NonePass : (ℕ → Bool) → ℕ → ℕ → Type 0
 NonePass test from end = (i : ℕ) → from ≤ i → i < end → test i ≡ false
 
--- the least number from the one up to the other that passes
+-- it is the least number from the one up to the other that passes
 pub record IsLeast (test : ℕ → Bool) (from end i : ℕ) : Type 0 where
   pub low : from ≤ i
   pub high : i < end
   pub passes : test i ≡ true
   pub least : NonePass test from i
 
+-- the least number from the one up to the other that passes, or that there is none
 abbrev pub IsFirst : (ℕ → Bool) → ℕ → ℕ → Option ℕ → Type 0
 IsFirst test from end None = NonePass test from end
 IsFirst test from end (Some i) = IsLeast test from end i

@@ -155,20 +155,17 @@ impl BlockSet {
         if first_place(&words, u64::from(bound), true).is_some() {
             return Ok(None);
         }
-        Ok(Some(BlockSet {
-            words,
-            bound,
-        }))
+        Ok(Some(BlockSet { words, bound }))
     }
 }
 
 #[cfg(test)]
 mod tests {
     use super::*;
-    use crate::Memory;
-    use std::alloc::Global;
+    use std::test::Fail;
 
-    fn bits_to_128(alloc: Global) -> Result<BlockSet, Memory>
+    /// The numbers 0 to 127 and 129, below 130.
+    fn all_but_128(alloc: Global) -> Result<BlockSet, Memory>
         ensures { IfOk result (λ set. length set ≡ 130) }
     {
         let mut set = BlockSet::new(alloc, 130)?;
@@ -177,5 +174,40 @@ mod tests {
         }
         set.set(129);
         Ok(set)
+    }
+
+    #[test]
+    fn keeps_its_numbers_in_words(rt: HostRuntime) -> Result<(), Fail> {
+        let set = all_but_128(rt.alloc())?;
+        assert_eq!(rt; set.words(), [u64::MAX, u64::MAX, 2].as_slice());
+        assert_eq!(rt; set.count(), 129);
+        assert!(rt; set.test(127) && !set.test(128));
+        Ok(())
+    }
+
+    #[test]
+    fn finds_runs_and_the_gap(rt: HostRuntime) -> Result<(), Fail> {
+        let set = all_but_128(rt.alloc())?;
+        let runs = set.runs(rt.alloc())?;
+        assert_eq!(rt; runs.as_slice(), [(0, 127), (129, 129)].as_slice());
+        assert_eq!(rt; set.first_absent(0), Some(128));
+        assert_eq!(rt; set.first_absent(129), None);
+        Ok(())
+    }
+
+    #[test]
+    fn goes_through_its_bitmap(rt: HostRuntime) -> Result<(), Fail> {
+        let set = all_but_128(rt.alloc())?;
+        let copy = set.copy(rt.alloc())?;
+        let mut bytes = Vec::new(rt.alloc());
+        copy.bytes_into(&mut bytes)?;
+        assert_eq!(rt; bytes.len(), 17);
+        assert!(rt; bytes[..16] == [255; 16] && bytes[16] == 2);
+        let back = BlockSet::from_bitmap(rt.alloc(), &bytes, 130)?.ok_or("padding")?;
+        assert_eq!(rt; back.bound(), 130);
+        assert!(rt; back.equals(&set));
+        bytes[16] = 4;
+        assert!(rt; BlockSet::from_bitmap(rt.alloc(), &bytes, 130)?.is_none());
+        Ok(())
     }
 }

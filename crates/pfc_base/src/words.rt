@@ -19,7 +19,7 @@ fn ones_one_by_one(words: &[u64]) -> u64
     total
 }
 
-/// How many bits of these words are set.
+/// How many bits of these words are set, four words at a time.
 pub fn ones(words: &[u64]) -> u64
     requires { length words.now < 2 ^ 57 }
     ensures { result ≡ sum_by count_ones words.now }
@@ -36,7 +36,9 @@ pub fn ones(words: &[u64]) -> u64
 fn equal_in_eight(words: &[u64; 8], word: u64) -> u32
     ensures { result ≡ prefix_len (λ w. w == word) words.now }
 {
-    let others = u64x8::from_array(*words).simd_ne(u64x8::splat(word)).to_bitmask();
+    let others = u64x8::from_array(*words)
+        .simd_ne(u64x8::splat(word))
+        .to_bitmask();
     if others == 0 {
         8
     } else {
@@ -149,17 +151,24 @@ pub fn words_within(low: &[u64], high: &[u64]) -> bool
     low.iter().zip(high).all(|(a, b)| *a & !*b == 0)
 }
 
-/// A place that was looked for below some end, if it is below this bound too.
+/// A place that was found below some end, where it is below this bound too.
 pub fn below(place: Option<u64>, bound: u32) -> Option<u32>
     ensures { (test : ℕ → Bool) (from end : ℕ) → bound ≤ end → IsFirst test from end place → IsFirst test from bound result }
 {
     match place {
         None => None,
-        Some(i) => { if i < u64::from(bound) { Some(i as u32) } else { None } }
+        Some(i) => {
+            if i < u64::from(bound) {
+                Some(i as u32)
+            } else {
+                None
+            }
+        }
     }
 }
 
-/// Appends the first `count` bytes of these words, the low byte of each first.
+/// Appends the first `count` bytes of these words, the low byte of each first. Room is made first, so that
+/// nothing is appended where it is refused.
 pub fn append_bytes(words: &[u64], count: usize, into: &mut Vec<u8>) -> Result<(), AllocError>
     requires { count ≤ 8 * length words.now }
     ensures ok { OnOk result (into.new.items ≡ into.old.items ++ take count (bytes_of words.now)) }
@@ -171,7 +180,8 @@ pub fn append_bytes(words: &[u64], count: usize, into: &mut Vec<u8>) -> Result<(
         into.extend_from_slice(&w.to_le_bytes()).unwrap();
     }
     if let [last, ..] = rest {
-        into.extend_from_slice(&last.to_le_bytes()[..count % 8]).unwrap();
+        into.extend_from_slice(&last.to_le_bytes()[..count % 8])
+            .unwrap();
     }
     Ok(())
 }

@@ -1,4 +1,4 @@
-use Rattle.std.proofs.Common.{◌≡◌, ℕ, ◌==◌, ◌-◌, ◌+◌, Bool, List, length, slice_index, drop, take, sym, ap, ◌∙◌, arith, take_all, length-drop}
+use Rattle.std.proofs.Common.{◌≡◌, ℕ, ◌==◌, ◌-◌, ◌+◌, Bool, List, length, slice_index, drop, take, ◌∙◌, arith, take_all, length-drop}
 use Rattle.std.specs.List.{prefix_len}
 use Rattle.pfc_base.proofs.Places.{word_without, word_without-only, skipped, skipped-le, skipped-stops, none-in_skipped}
 use Rattle.pfc_base.proofs.words.next_word.Goals as goal

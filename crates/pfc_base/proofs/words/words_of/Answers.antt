@@ -1,11 +1,10 @@
-use Rattle.std.proofs.Common.{◌≡◌, ◌<◌, ◌∙◌, ◌++◌, ◌+◌, ◌-◌, ◌*◌, ◌/◌, ◌^◌, [], ◌∷◌, ℕ, List, length, take, drop, replicate, slice_index, sym, ap, arith}
+use Rattle.std.proofs.Common.{◌≡◌, ◌<◌, ◌∙◌, ◌++◌, ◌^◌, ℕ, length, slice_index, sym, ap, arith}
 use Rattle.std.proofs.lemmas.List.{take-append-drop, length-take-le}
 use Rattle.std.proofs.lemmas.Bool.{eqb-true, eqb-false}
 use Rattle.std.proofs.lemmas.Nat.{le_bytes_8}
 use Rattle.pfc_base.specs.Words.{bytes_of}
 use Rattle.pfc_base.proofs.Bytes.{bytes_of-push, fits-push, fits-take, fits-drop, words-of_part, words-of_whole}
 use Rattle.pfc_base.proofs.words.words_of.Goals as goal
-
 use Rattle.pfc_base.proofs.words.words_of.Goals.{then-not-is_empty+in_ok-push-2, else-not-is_empty}
 
 pub loop-eight-preserved : goal.loop-eight-preserved
@@ -36,10 +35,10 @@ returns-clause-bytes c =
     let rest = c.loop-eight.rest.now in
     elim c.if-not-is_empty.branch [
       | then-not-is_empty+in_ok-push-2 w ↦
-        let some = eqb-false (length rest) 0 (sym c.is_empty.ensures ∙ w.if-not-is_empty.true) in
-        rw (w.words-is, w.in_ok-push-2.ensures.items)
-        (words-of_part old rest c.args.bytes.now w.last_word.result c.loop-eight.invariant.read (omega (arith, some)) c.in_default.ensures.cases w.last_word.ensures)
+          let some = eqb-false (length rest) 0 (sym c.is_empty.ensures ∙ w.if-not-is_empty.true) in
+          rw (w.words-is, w.in_ok-push-2.ensures.items)
+          (words-of_part old rest c.args.bytes.now w.last_word.result c.loop-eight.invariant.read (omega (arith, some)) c.in_default.ensures.cases w.last_word.ensures)
       | else-not-is_empty w ↦
-        let none = eqb-true (length rest) 0 (sym c.is_empty.ensures ∙ w.if-not-is_empty.false) in
-        rw w.words-is (words-of_whole old rest c.args.bytes.now c.loop-eight.invariant.read none)
+          let none = eqb-true (length rest) 0 (sym c.is_empty.ensures ∙ w.if-not-is_empty.false) in
+          rw w.words-is (words-of_whole old rest c.args.bytes.now c.loop-eight.invariant.read none)
     ]

@@ -1,4 +1,4 @@
-use Rattle.std.proofs.Common.{◌≡◌, ◌+◌, ◌/◌, ◌∙◌, sym, arith, List, ℕ, length, take, subst}
+use Rattle.std.proofs.Common.{◌≡◌, ◌+◌, ◌/◌, sym, arith, List, ℕ, length, take, subst}
 use Rattle.pfc_base.specs.Words.{bytes_of}
 use Rattle.pfc_base.specs.BlockSet.{IsBitmap}
 use Rattle.pfc_base.proofs.Sets.{words-of_view}

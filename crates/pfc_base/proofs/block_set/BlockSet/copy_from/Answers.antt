@@ -1,6 +1,5 @@
-use Rattle.std.proofs.Common.{◌≡◌, ◌∙◌, sym, ap, arith, subst, length}
-use Rattle.pfc_base.specs.BlockSet.{AreKept, AreWords, members_of}
-use Rattle.pfc_base.proofs.Sets.{words-of_view, view-of_words}
+use Rattle.std.proofs.Common.{◌≡◌, ◌∙◌, ap, arith, length}
+use Rattle.pfc_base.proofs.Sets.{words-of_view}
 use Rattle.pfc_base.proofs.block_set.BlockSet.copy_from.Goals as goal
 
 pub copy_from_slice-requires : goal.copy_from_slice-requires

@@ -1,4 +1,4 @@
-use Rattle.std.proofs.Common.{◌≡◌, ◌∙◌, List, Bool, true, false, sym, subst, arith, length}
+use Rattle.std.proofs.Common.{◌≡◌, ◌∙◌, List, Bool, sym, subst, arith}
 use Rattle.std.specs.Cmp.Lexicographic.{same_text, other_text}
 use Rattle.std.proofs.lemmas.Bool.{true_from_ne_false}
 use Rattle.pfc_base.specs.BlockSet.{AreWords, members_of}
@@ -13,8 +13,8 @@ returns c =
     let b = c.other.inside.words.items in
     let bounds : c.self.inside.bound ≡ c.other.inside.bound = omega (arith, mine.0, theirs.0, c.requires) in (
       λ equal. let words = same_text a b (sym equal ∙ c.eq.ensures) in
-        sym c.self.view_is ∙ (λ i. members_of (words i) (bounds i)) ∙ c.other.view_is,
+          sym c.self.view_is ∙ (λ i. members_of (words i) (bounds i)) ∙ c.other.view_is,
       λ same. let P : List Bool → Type 0 = λ set. AreWords b set in
-        let words = same-from_set a b c.args.self.now c.self.invariant.fits c.other.invariant.fits mine.1 (subst P (sym same) theirs.1) in
-        true_from_ne_false c.eq.result (λ other. other_text a b (sym other ∙ c.eq.ensures) words),
+          let words = same-from_set a b c.args.self.now c.self.invariant.fits c.other.invariant.fits mine.1 (subst P (sym same) theirs.1) in
+          true_from_ne_false c.eq.result (λ other. other_text a b (sym other ∙ c.eq.ensures) words),
     )

@@ -1,6 +1,5 @@
-use Rattle.std.proofs.Common.{◌≡◌, ◌∙◌, ◌*◌, ℕ, List, Bool, Option, true, sym, ap, arith, length, subst}
+use Rattle.std.proofs.Common.{◌≡◌, ◌∙◌, ◌*◌, ℕ, List, Option, true, sym, ap, arith, length, subst}
 use Rattle.pfc_base.specs.Words.{has_bit, IsFirst}
-use Rattle.pfc_base.specs.BlockSet.{AreKept}
 use Rattle.pfc_base.proofs.Sets.{length-members_of}
 use Rattle.pfc_base.proofs.Bitmaps.{hold-padded, kept-from_bytes, bitmap-from_bytes, padding-found, no-padding}
 use Rattle.pfc_base.proofs.block_set.BlockSet.from_bitmap.Goals as goal
@@ -36,6 +35,6 @@ returns c =
     let words = c.in_ok-words.words.items in
     let holds = hold-padded words c.args.bytes.now c.in_ok-words.ensures.fits c.in_ok-words.ensures.bytes in
     let kept = kept-from_bytes words c.args.bytes.now c.args.bound c.ranges.bound.fits c.requires holds
-      (no-padding words c.args.bound c.first_place.result (sym c.is_some.ensures ∙ c.if-is_some.false)
-      (found-in words c.deref.result.now c.from.result c.args.bound c.first_place.result c.deref.ensures.value c.from.ensures c.first_place.ensures)) in
+    (no-padding words c.args.bound c.first_place.result (sym c.is_some.ensures ∙ c.if-is_some.false)
+    (found-in words c.deref.result.now c.from.result c.args.bound c.first_place.result c.deref.ensures.value c.from.ensures c.first_place.ensures)) in
     (length-members_of words c.args.bound, bitmap-from_bytes words c.args.bytes.now c.args.bound c.requires holds kept)

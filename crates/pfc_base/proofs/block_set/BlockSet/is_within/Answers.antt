@@ -1,4 +1,4 @@
-use Rattle.std.proofs.Common.{◌≡◌, ℕ, ◌∙◌, sym, ap, arith, length, true}
+use Rattle.std.proofs.Common.{◌≡◌, ◌∙◌, sym, ap, arith, length}
 use Rattle.std.specs.List.{zip, list_all}
 use Rattle.pfc_base.proofs.Sets.{words-of_view, within-of_words}
 use Rattle.pfc_base.proofs.Within.{within-words, lacks_none}

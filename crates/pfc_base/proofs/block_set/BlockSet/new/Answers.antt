@@ -1,6 +1,5 @@
-use Rattle.std.proofs.Common.{◌≡◌, ◌+◌, ◌/◌, ◌∙◌, ap, arith, replicate, false, ℕ, List, length}
+use Rattle.std.proofs.Common.{◌≡◌, ◌+◌, ◌/◌, ◌∙◌, ap, arith, replicate, false}
 use Rattle.std.proofs.lemmas.List.{length-replicate}
-use Rattle.pfc_base.specs.BlockSet.{AreWords}
 use Rattle.pfc_base.proofs.Sets.{words-none, view-of_words, fits-none}
 use Rattle.pfc_base.proofs.block_set.BlockSet.new.Goals as goal
 

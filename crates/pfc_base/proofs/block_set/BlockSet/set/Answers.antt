@@ -1,4 +1,4 @@
-use Rattle.std.proofs.Common.{◌≡◌, ◌*◌, ◌/◌, ◌%◌, ◌^◌, ◌<◌, List, Bool, true, ℕ, length, sym, ap, ◌∙◌, arith, get_or, slice_index, slice_set, bit_or, subst, length-set}
+use Rattle.std.proofs.Common.{◌≡◌, ◌*◌, ◌/◌, ◌%◌, ◌^◌, ◌<◌, List, Bool, true, ℕ, length, ◌∙◌, arith, get_or, slice_index, slice_set, bit_or, length-set}
 use Rattle.std.proofs.lemmas.List.{get_or_default}
 use Rattle.pfc_base.specs.BlockSet.{AreKept, AreWords, members_of}
 use Rattle.pfc_base.proofs.Sets.{words-of_view, view-of_words, words-set, fits-set}

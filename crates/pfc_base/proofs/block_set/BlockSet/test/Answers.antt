@@ -1,9 +1,8 @@
-use Rattle.std.proofs.Common.{◌≡◌, ◌==◌, ◌/◌, ◌%◌, ◌^◌, sym, ap, ◌∙◌, arith, get_or, slice_index, bit_and}
-use Rattle.std.specs.Int.{bit_at}
+use Rattle.std.proofs.Common.{◌≡◌, ◌==◌, ◌/◌, ◌%◌, ◌^◌, ap, ◌∙◌, arith, slice_index, bit_and}
 use Rattle.std.proofs.lemmas.List.{get_or_default}
 use Rattle.std.proofs.lemmas.Nat.Bits.{shr_and_one}
 use Rattle.pfc_base.proofs.Bits.{bit_of-tested}
-use Rattle.pfc_base.specs.BlockSet.{is_member, bit_of}
+use Rattle.pfc_base.specs.BlockSet.{is_member}
 use Rattle.pfc_base.proofs.Sets.{words-of_view}
 use Rattle.pfc_base.proofs.block_set.BlockSet.test.Goals as goal
 

@@ -1,4 +1,3 @@
-use Rattle.std.proofs.Common.{arith}
 use Rattle.pfc_base.proofs.Sets.{words-of_view}
 use Rattle.pfc_base.proofs.block_set.BlockSet.words.Goals as goal
 
