@@ -1,0 +1,12 @@
+//! What the core of a file writes down: entries, the views that read them, and which logs are lawful.
+#![tactic(auto)]
+
+mod block_set;
+mod counts;
+mod entry;
+mod start;
+
+pub use block_set::BlockSet;
+pub use counts::Counts;
+pub use entry::{DropCause, Entry, Fell, Mark, Served, Spot, Stranger, Uncached, Way};
+pub use start::Start;
