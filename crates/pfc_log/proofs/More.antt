@@ -1,6 +1,6 @@
 -- One more entry.
 use Rattle.std.proofs.Common.{◌≡◌, ◌⊎◌, ℕ, zero, suc, ◌+◌, List, [], ◌∷◌, ◌++◌, take, sym, refl, ap, ◌∙◌, subst, inl, inr, arith, Bool, true, false, Option, Some, None}
-use Rattle.std.specs.Prelude.{slice_get, if◌then◌else◌}
+use Rattle.std.specs.Prelude.{slice_get, fold, if◌then◌else◌}
 use Rattle.std.proofs.lemmas.List.Sums.{fold_push}
 use Rattle.pfc_log.specs.declared.entry.Entry.{Entry}
 use Rattle.pfc_log.specs.declared.start.Start.{Start}
@@ -46,3 +46,8 @@ times_none p es e h = times_more p es e ∙ ap (λ (q : Bool). times p es + (if 
 
 pub times_one : (p : Entry → Bool) (es : List Entry) (e : Entry) → p e ≡ true → times p (es ++ e ∷ []) ≡ times p es + 1
 times_one p es e h = times_more p es e ∙ ap (λ (q : Bool). times p es + (if q then 1 else 0)) h
+
+-- a count that sees the owners goes on with those that the entries so far left
+pub count_after_more : (p : List ℕ → Entry → Bool) (ns : List ℕ) (es : List Entry) (e : Entry) → count_after p ns (es ++ e ∷ []) ≡ count_after p ns es + (if p (fold owning ns es) e then 1 else 0)
+count_after_more p ns [] e = omega arith
+count_after_more p ns (x ∷ es) e = omega (arith, count_after_more p (owning ns x) es e)

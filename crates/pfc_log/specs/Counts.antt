@@ -1,9 +1,9 @@
 -- What a log counts for the statistics.
-use Rattle.std.specs.Prelude.{ℕ, ◌-◌, ◌^◌, Bool, true, false, List, min, sum_by}
+use Rattle.std.specs.Prelude.{ℕ, ◌+◌, ◌-◌, ◌^◌, Bool, true, false, List, min, sum_by, if◌then◌else◌}
 use Rattle.pfc_log.specs.declared.entry.Entry.{Entry}
 use Rattle.pfc_log.specs.declared.entry.Entry.TheVariants as e
 use Rattle.pfc_log.specs.declared.counts.Counts.{Counts}
-use Rattle.pfc_log.specs.Views.{times, begins}
+use Rattle.pfc_log.specs.Views.{times}
 use Rattle.pfc_log.specs.Owners.{landed_of}
 
 -- a number as 64 bits hold it: it stays at the greatest one
@@ -76,3 +76,16 @@ counts_of es = record {
   synced = saturated (times is_synced es);
   claimed = saturated (times is_claimed es);
 }
+
+-- the counts after one more entry, which landed a flight of client 0 or didn't
+abbrev pub one_more : Counts → Entry → Bool → Counts
+one_more c (e.Opened n) prefetched = record c { opens = saturated (c.opens + 1) }
+one_more c (e.Served n served) prefetched = record c { reads = saturated (c.reads + 1); hit = saturated (c.hit + served.hit); missed = saturated (c.missed + served.missed); bypassed = saturated (c.bypassed + served.bypassed) }
+one_more c (e.Join t i n) prefetched = record c { joined = saturated (c.joined + 1) }
+one_more c (e.Landed t) prefetched = record c { fetched = saturated (c.fetched + 1); prefetched = saturated (c.prefetched + (if prefetched then 1 else 0)) }
+one_more c (e.Failed t why) prefetched = record c { failed = saturated (c.failed + 1) }
+one_more c (e.Wrote i) prefetched = record c { written = saturated (c.written + 1) }
+one_more c (e.Dropped i why) prefetched = record c { dropped = saturated (c.dropped + 1) }
+one_more c e.Synced prefetched = record c { synced = saturated (c.synced + 1) }
+one_more c (e.Claimed p n) prefetched = record c { claimed = saturated (c.claimed + 1) }
+one_more c _ prefetched = c

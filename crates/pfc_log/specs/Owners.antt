@@ -21,31 +21,31 @@ abbrev pub is_client : ℕ → Option ℕ → Bool
 is_client n None = false
 is_client n (Some m) = m == n
 
--- how many entries pass a test that sees the entries before them
-abbrev pub count_after : (List Entry → Entry → Bool) → List Entry → List Entry → ℕ
-count_after p before [] = 0
-count_after p before (e ∷ es) = (if p before e then 1 else 0) + count_after p (before ++ e ∷ []) es
+-- how many entries pass a test that sees the owners of the flights begun before them
+abbrev pub count_after : (List ℕ → Entry → Bool) → List ℕ → List Entry → ℕ
+count_after p ns [] = 0
+count_after p ns (e ∷ es) = (if p ns e then 1 else 0) + count_after p (owning ns e) es
 
-abbrev pub is_landed_of : ℕ → List Entry → Entry → Bool
-is_landed_of n before (Landed t) = is_client n (owner t before)
-is_landed_of n before _ = false
+abbrev pub is_landed_of : ℕ → List ℕ → Entry → Bool
+is_landed_of n ns (Landed t) = is_client n (slice_get ns t)
+is_landed_of n ns _ = false
 
 -- how many flights of client n landed
 abbrev pub landed_of : ℕ → List Entry → ℕ
 landed_of n es = count_after (is_landed_of n) [] es
 
-abbrev pub is_fault_of : ℕ → List Entry → Entry → Bool
-is_fault_of n before (Failed t Fault) = is_client n (owner t before)
-is_fault_of n before _ = false
+abbrev pub is_fault_of : ℕ → List ℕ → Entry → Bool
+is_fault_of n ns (Failed t Fault) = is_client n (slice_get ns t)
+is_fault_of n ns _ = false
 
--- how many flights of client n failed by a fault of its link
+-- how many flights of client n failed by a fault
 abbrev pub faults_of : ℕ → List Entry → ℕ
 faults_of n es = count_after (is_fault_of n) [] es
 
-abbrev pub is_memory_of : ℕ → List Entry → Entry → Bool
-is_memory_of n before (Failed t Memory) = is_client n (owner t before)
-is_memory_of n before _ = false
+abbrev pub is_want_of : ℕ → List ℕ → Entry → Bool
+is_want_of n ns (Failed t Memory) = is_client n (slice_get ns t)
+is_want_of n ns _ = false
 
 -- how many flights of client n failed for want of memory
 abbrev pub wants_of : ℕ → List Entry → ℕ
-wants_of n es = count_after (is_memory_of n) [] es
+wants_of n es = count_after (is_want_of n) [] es

@@ -4,9 +4,11 @@
 mod block_set;
 mod counts;
 mod entry;
+mod log;
 mod start;
 
 pub use block_set::BlockSet;
 pub use counts::Counts;
 pub use entry::{DropCause, Entry, Fell, Mark, Served, Spot, Stranger, Uncached, Way};
+pub use log::FileLog;
 pub use start::Start;
