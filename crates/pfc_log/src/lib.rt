@@ -6,9 +6,12 @@ mod counts;
 mod entry;
 mod log;
 mod start;
+mod text;
+mod words;
 
 pub use block_set::BlockSet;
 pub use counts::Counts;
 pub use entry::{DropCause, Entry, Fell, Mark, Served, Spot, Stranger, Uncached, Way};
 pub use log::FileLog;
 pub use start::Start;
+pub use text::push_entry;
