@@ -5,3 +5,4 @@ pub mod Counts
 pub mod LogView
 pub mod Log
 pub mod Text
+pub mod Positions
