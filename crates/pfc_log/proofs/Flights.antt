@@ -41,7 +41,7 @@ if_ending : (q : Bool) (p : Place) (t n : ℕ) → (if q then ending p else p) �
 if_ending true p t n h = ending_flying p t n h
 if_ending false p t n h = h
 
-same_number : (a b : ℕ) → (a == b) ≡ true → a ≡ b
+pub same_number : (a b : ℕ) → (a == b) ≡ true → a ≡ b
 same_number a b h = elim (cases_eq a b) [
   | inl w ↦ w.0
   | inr w ↦ let clash : true ≡ false = sym h ∙ w.1 in absurd cc
