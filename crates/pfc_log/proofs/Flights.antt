@@ -33,7 +33,7 @@ ending_flying (Flying u m) t n h = h
 ending_flying (Here u d) t n h = absurd cc
 
 -- what a choice between two places is
-if_place : (q : Bool) (x y z : Place) → (if q then x else y) ≡ z → ((q ≡ true) × (x ≡ z)) ⊎ ((q ≡ false) × (y ≡ z))
+pub if_place : (q : Bool) (x y z : Place) → (if q then x else y) ≡ z → ((q ≡ true) × (x ≡ z)) ⊎ ((q ≡ false) × (y ≡ z))
 if_place true x y z h = inl (refl, h)
 if_place false x y z h = inr (refl, h)
 

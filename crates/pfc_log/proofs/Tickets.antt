@@ -15,20 +15,19 @@ use Rattle.pfc_log.proofs.More.{times_more, times_one, times_none, owners_more}
 use Rattle.pfc_log.proofs.Places.{from_end, by_bool, cases_eq, stands_old, stands_new, stands_split, stands_take, take_stands, take_take, along, lawful_front, none_or_some}
 use Rattle.pfc_log.proofs.Flights.{out_since, still_out, same_number}
 
-one_begin : (es : List Entry) (p t i n : ℕ) → StandsAt es p (e.Begin t i n) → begins (take (suc p) es) ≡ begins (take p es) + 1
-one_begin [] p t i n h = absurd cc
-one_begin (x ∷ es) zero t i n h = let same : x ≡ e.Begin t i n = cc in ap (λ (f : Entry). begins (f ∷ [])) same
-one_begin (x ∷ es) (suc p) t i n h =
-    sum_by-cons count x (take (suc p) es) ∙ ap (λ (a : ℕ). count x + a) (one_begin es p t i n h) ∙ omega (arith, sum_by-cons count x (take p es))
-  where
-    count : Entry → ℕ
-    count f = if is_begin f then 1 else 0
+pass_one : (test : Entry → Bool) (es : List Entry) (p : ℕ) (x : Entry) → StandsAt es p x → test x ≡ true → times test (take (suc p) es) ≡ times test (take p es) + 1
+pass_one test [] p x h y = absurd cc
+pass_one test (x ∷ es) zero f h y = let same : x ≡ f = cc in times_one test [] x (ap test same ∙ y)
+pass_one test (x ∷ es) (suc p) f h y =
+    sum_by-cons (λ (g : Entry). if test g then 1 else 0) x (take (suc p) es)
+    ∙ ap (λ (a : ℕ). (if test x then 1 else 0) + a) (pass_one test es p f h y)
+    ∙ omega (arith, sum_by-cons (λ (g : Entry). if test g then 1 else 0) x (take p es))
 
--- a begin counts in each front behind it
-begins_pass : (es : List Entry) (p q t i n : ℕ) → StandsAt es p (e.Begin t i n) → p < q → begins (take p es) < begins (take q es)
-begins_pass es p q t i n at low =
-    let front : begins (take (suc p) (take q es)) ≤ begins (take q es) = sum_by-take-le (λ (f : Entry). if is_begin f then 1 else 0) (take q es) (suc p) in
-    omega (arith, ap begins (take_take (suc p) q es (omega arith)), front, one_begin es p t i n at)
+-- an entry that passes counts in each front behind it
+pub pass_front : (test : Entry → Bool) (es : List Entry) (p q : ℕ) (x : Entry) → StandsAt es p x → test x ≡ true → p < q → times test (take p es) < times test (take q es)
+pass_front test es p q x at y low =
+    let front : times test (take (suc p) (take q es)) ≤ times test (take q es) = sum_by-take-le (λ (f : Entry). if test f then 1 else 0) (take q es) (suc p) in
+    omega (arith, ap (times test) (take_take (suc p) q es (omega arith)), front, pass_one test es p x at y)
 
 -- a ticket begins once
 pub begin_once : (first : Start) (es : List Entry) → Lawful first es → (t i n j m p q : ℕ) → StandsAt es p (e.Begin t i n) → StandsAt es q (e.Begin t j m) → p ≡ q
@@ -38,8 +37,8 @@ begin_once first es law t i n j m p q at there =
     elim (cases_order p q) [
       | inl same ↦ same
       | inr w ↦ elim w [
-          | inl low ↦ absurd (omega (arith, one, two, begins_pass es p q t i n at low))
-          | inr high ↦ absurd (omega (arith, one, two, begins_pass es q p t j m there high))
+          | inl low ↦ absurd (omega (arith, one, two, pass_front is_begin es p q (e.Begin t i n) at refl low))
+          | inr high ↦ absurd (omega (arith, one, two, pass_front is_begin es q p (e.Begin t j m) there refl high))
         ]
     ]
 

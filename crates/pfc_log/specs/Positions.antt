@@ -1,7 +1,10 @@
 -- Places in a log. The place of an entry is the number of entries before it.
-use Rattle.std.specs.Prelude.{◌≡◌, ℕ, ◌<◌, ◌==◌, Bool, true, false, List, slice_get, Some}
+use Rattle.std.specs.Prelude.{◌≡◌, ℕ, ◌<◌, ◌==◌, ⊤, Bool, true, false, List, slice_get, Some}
 use Rattle.pfc_log.specs.declared.entry.Entry.{Entry}
-use Rattle.pfc_log.specs.declared.entry.Entry.TheVariants.{Begin, Landed, Dropped, Wrote, Left}
+use Rattle.pfc_log.specs.declared.entry.Entry.TheVariants.{Opened, Closed, Begin, Join, Hit, Direct, Landed, Failed, Dropped, Wrote, Left, Synced, Claimed, Frozen, WrittenOff, Served}
+use Rattle.pfc_log.specs.declared.entry.Uncached.{Uncached}
+use Rattle.pfc_log.specs.declared.entry.Way.{Way}
+use Rattle.pfc_log.specs.declared.entry.Way.TheVariants as way
 use Rattle.pfc_log.specs.Views.{is_ended}
 
 abbrev pub StandsAt : List Entry → ℕ → Entry → Type 0
@@ -52,3 +55,50 @@ pub record IsInSince (es : List Entry) (i t p : ℕ) : Type 0 where
 abbrev pub IsDoneSince : Bool → List Entry → ℕ → ℕ → Type 0
 IsDoneSince true es i p = SomeAfter (is_done i) es p
 IsDoneSince false es i p = NoneAfter (is_done i) es p
+
+-- a `wrote` of block i stands
+pub record IsWritten (es : List Entry) (i : ℕ) : Type 0 where
+  pub at : ℕ
+  pub stands : StandsAt es at (Wrote i)
+
+-- a `wrote` of block i stands before a `synced`
+pub record IsSynced (es : List Entry) (i : ℕ) : Type 0 where
+  pub at : ℕ
+  pub sync : ℕ
+  pub before : at < sync
+  pub stands : StandsAt es at (Wrote i)
+  pub synced : StandsAt es sync Synced
+
+-- flight t began before place p
+pub record IsBegun (es : List Entry) (t p : ℕ) : Type 0 where
+  pub block : ℕ
+  pub begun : BeganBefore es block t p
+
+-- flight t landed or failed between two places
+pub record EndsBetween (es : List Entry) (t p q : ℕ) : Type 0 where
+  pub at : ℕ
+  pub entry : Entry
+  pub behind : p < at
+  pub before : at < q
+  pub stands : StandsAt es at entry
+  pub ends : is_ended t entry ≡ true
+
+-- what may stand in a log that starts uncached for this cause
+abbrev pub IsOfUncached : Uncached → Entry → Type 0
+IsOfUncached why (Opened n) = ⊤
+IsOfUncached why (Closed n) = ⊤
+IsOfUncached why (Served n served) = ⊤
+IsOfUncached why (Direct i n cause) = cause ≡ way.Uncached why
+IsOfUncached why _ = ⊥
+
+-- what may stand behind `written_off`
+abbrev pub IsOfOff : Entry → Type 0
+IsOfOff (Begin t i n) = ⊥
+IsOfOff (Join t i n) = ⊥
+IsOfOff (Hit i spot n) = ⊥
+IsOfOff (Wrote i) = ⊥
+IsOfOff Synced = ⊥
+IsOfOff (Claimed p c) = ⊥
+IsOfOff Frozen = ⊥
+IsOfOff WrittenOff = ⊥
+IsOfOff _ = ⊤
