@@ -15,16 +15,16 @@ landing_flying : (u : ℕ) (p : Place) (t n : ℕ) → landing u p ≡ Flying t 
 landing_flying u Away t n h = absurd cc
 landing_flying u (Here v d) t n h = absurd cc
 landing_flying u (Flying v m) t n h = by_bool (v == u)
-  (λ y. let gone : Here v false ≡ Flying t n = sym (ap (λ (q : Bool). if q then Here v false else Flying v m) y) ∙ h in absurd cc)
-  (λ o. let stays : Flying v m ≡ Flying t n = sym (ap (λ (q : Bool). if q then Here v false else Flying v m) o) ∙ h in
+    (λ y. let gone : Here v false ≡ Flying t n = sym (ap (λ (q : Bool). if q then Here v false else Flying v m) y) ∙ h in absurd cc)
+    (λ o. let stays : Flying v m ≡ Flying t n = sym (ap (λ (q : Bool). if q then Here v false else Flying v m) o) ∙ h in
     let same : v ≡ t = cc in (stays, eq_sym t u (ap (λ (x : ℕ). x == u) (sym same) ∙ o)))
 
 failing_flying : (u : ℕ) (p : Place) (t n : ℕ) → failing u p ≡ Flying t n → (p ≡ Flying t n) × ((u == t) ≡ false)
 failing_flying u Away t n h = absurd cc
 failing_flying u (Here v d) t n h = absurd cc
 failing_flying u (Flying v m) t n h = by_bool (v == u)
-  (λ y. let gone : Away ≡ Flying t n = sym (ap (λ (q : Bool). if q then Away else Flying v m) y) ∙ h in absurd cc)
-  (λ o. let stays : Flying v m ≡ Flying t n = sym (ap (λ (q : Bool). if q then Away else Flying v m) o) ∙ h in
+    (λ y. let gone : Away ≡ Flying t n = sym (ap (λ (q : Bool). if q then Away else Flying v m) y) ∙ h in absurd cc)
+    (λ o. let stays : Flying v m ≡ Flying t n = sym (ap (λ (q : Bool). if q then Away else Flying v m) o) ∙ h in
     let same : v ≡ t = cc in (stays, eq_sym t u (ap (λ (x : ℕ). x == u) (sym same) ∙ o)))
 
 ending_flying : (p : Place) (t n : ℕ) → ending p ≡ Flying t n → p ≡ Flying t n
@@ -75,12 +75,12 @@ moves_flying i p (e.Served m served) t n h = inr (h, refl)
 -- a block that is in flight got there by a begin, and its flight hasn't ended
 pub out_since : (i t n : ℕ) (es : List Entry) → place i es ≡ Flying t n → (p : ℕ) × IsOutSince es i t n p
 out_since i t n es = from_end (λ (l : List Entry). place i l ≡ Flying t n → (p : ℕ) × IsOutSince l i t n p)
-  (λ h. absurd cc)
-  (λ xs x was h. elim (moves_flying i (place i xs) x t n (sym (place_more i xs x) ∙ h)) [
-    | inl w ↦ (length xs, record { begun = stands_new xs x ∙ ap (λ (f : Entry). Some f) w; out = none_last (is_ended t) xs x })
-    | inr w ↦ let since = was w.0 in
-        (since.0, record { begun = stands_old xs x (e.Begin t i n) since.0 since.1.begun; out = none_push (is_ended t) xs x since.0 since.1.out w.1 })
-  ]) es
+    (λ h. absurd cc)
+    (λ xs x was h. elim (moves_flying i (place i xs) x t n (sym (place_more i xs x) ∙ h)) [
+      | inl w ↦ (length xs, record { begun = stands_new xs x ∙ ap (λ (f : Entry). Some f) w; out = none_last (is_ended t) xs x })
+      | inr w ↦ let since = was w.0 in
+          (since.0, record { begun = stands_old xs x (e.Begin t i n) since.0 since.1.begun; out = none_push (is_ended t) xs x since.0 since.1.out w.1 })
+    ]) es
 
 -- a lawful entry that doesn't end its flight leaves a block in flight
 stays_flying : (first : Start) (i t n : ℕ) (es : List Entry) (x : Entry) → Row first es x → place i es ≡ Flying t n → is_ended t x ≡ false → moves i (place i es) x ≡ Flying t n
@@ -110,13 +110,13 @@ stays_flying first i t n es (e.Served m served) row h other = h
 -- in a lawful log, a block whose flight began and hasn't ended is in flight
 pub still_out : (first : Start) (i t n : ℕ) (es : List Entry) → Lawful first es → (p : ℕ) → IsOutSince es i t n p → place i es ≡ Flying t n
 still_out first i t n = along first (λ (l : List Entry). (p : ℕ) → IsOutSince l i t n p → place i l ≡ Flying t n)
-  (λ p since. absurd (nothing p (e.Begin t i n) since.begun))
-  (λ xs x law row was p since. place_more i xs x ∙ elim (stands_split xs x (e.Begin t i n) p since.begun) [
-    | inl w ↦ stays_flying first i t n xs x row
-        (was p (record { begun = w; out = none_pop (is_ended t) xs x p since.out }))
-        (none_now (is_ended t) xs x p (slice_get_within xs p (e.Begin t i n) w) since.out)
-    | inr w ↦ ap (moves i (place i xs)) (sym w.0) ∙ ap (λ (q : Bool). if q then Flying t n else place i xs) (eq_self i)
-  ])
+    (λ p since. absurd (nothing p (e.Begin t i n) since.begun))
+    (λ xs x law row was p since. place_more i xs x ∙ elim (stands_split xs x (e.Begin t i n) p since.begun) [
+      | inl w ↦ stays_flying first i t n xs x row
+          (was p (record { begun = w; out = none_pop (is_ended t) xs x p since.out }))
+          (none_now (is_ended t) xs x p (slice_get_within xs p (e.Begin t i n) w) since.out)
+      | inr w ↦ ap (moves i (place i xs)) (sym w.0) ∙ ap (λ (q : Bool). if q then Flying t n else place i xs) (eq_self i)
+    ])
   where
     nothing : (p : ℕ) (x : Entry) → StandsAt [] p x → ⊥
     nothing p x h = cc

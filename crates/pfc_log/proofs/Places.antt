@@ -85,7 +85,7 @@ row_last first es e law = subst (λ (l : List Entry). Row first l e) (take_push 
 -- an induction on a lawful log from its end
 pub along : (first : Start) (P : List Entry → Type 0) → P [] → ((es : List Entry) (e : Entry) → Lawful first es → Row first es e → P es → P (es ++ e ∷ [])) → (es : List Entry) → Lawful first es → P es
 along first P none step es = from_end (λ (l : List Entry). Lawful first l → P l) (λ law. none)
-  (λ xs e was law. step xs e (lawful_pop first xs e law) (row_last first xs e law) (was (lawful_pop first xs e law))) es
+    (λ xs e was law. step xs e (lawful_pop first xs e law) (row_last first xs e law) (was (lawful_pop first xs e law))) es
 
 pub none_push : (test : Entry → Bool) (es : List Entry) (e : Entry) (p : ℕ) → NoneAfter test es p → test e ≡ false → NoneAfter test (es ++ e ∷ []) p
 none_push test es e p was h = record {
@@ -118,16 +118,18 @@ cases_late p es = cases_lt p (length es)
 -- the test passes behind a place, or nowhere there
 pub none_or_some : (test : Entry → Bool) (p : ℕ) (es : List Entry) → NoneAfter test es p ⊎ SomeAfter test es p
 none_or_some test p es = from_end (λ (l : List Entry). NoneAfter test l p ⊎ SomeAfter test l p)
-  (inl (record { none = λ q e low at. absurd cc }))
-  (λ xs e was. elim was [
-    | inr some ↦ inr (some_push test xs e p some)
-    | inl none ↦ by_bool (test e)
-        (λ y. elim (cases_late p xs) [
-          | inl low ↦ inr (record { at = length xs; entry = e; behind = low; stands = stands_new xs e; passes = y })
-          | inr high ↦ inl (record { none = λ q f low at. elim (stands_split xs e f q at) [
-              | inl w ↦ absurd (omega (arith, slice_get_within xs q f w))
-              | inr w ↦ absurd (omega (arith, w.1))
-            ] })
-        ])
-        (λ n. inl (none_push test xs e p none n))
-  ]) es
+    (inl (record { none = λ q e low at. absurd cc }))
+    (λ xs e was. elim was [
+      | inr some ↦ inr (some_push test xs e p some)
+      | inl none ↦ by_bool (test e)
+          (λ y. elim (cases_late p xs) [
+            | inl low ↦ inr (record { at = length xs; entry = e; behind = low; stands = stands_new xs e; passes = y })
+            | inr high ↦ inl (record {
+              none = λ q f low at. elim (stands_split xs e f q at) [
+                | inl w ↦ absurd (omega (arith, slice_get_within xs q f w))
+                | inr w ↦ absurd (omega (arith, w.1))
+              ];
+            })
+          ])
+          (λ n. inl (none_push test xs e p none n))
+    ]) es

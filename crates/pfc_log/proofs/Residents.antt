@@ -87,8 +87,8 @@ done_push i p false es x was h = none_push (is_done i) es x p was h
 -- one more entry may say that the block is done
 done_more : (i p : ℕ) (c : Bool) (es : List Entry) (x : Entry) → p < length es → IsDoneSince c es i p → IsDoneSince (is_done i x || c) (es ++ x ∷ []) i p
 done_more i p c es x low was = by_bool (is_done i x)
-  (λ y. subst (λ (q : Bool). IsDoneSince q (es ++ x ∷ []) i p) (sym (ap (λ (a : Bool). a || c) y)) (record { at = length es; entry = x; behind = low; stands = stands_new es x; passes = y }))
-  (λ o. subst (λ (q : Bool). IsDoneSince q (es ++ x ∷ []) i p) (sym (ap (λ (a : Bool). a || c) o)) (done_push i p c es x was o))
+    (λ y. subst (λ (q : Bool). IsDoneSince q (es ++ x ∷ []) i p) (sym (ap (λ (a : Bool). a || c) y)) (record { at = length es; entry = x; behind = low; stands = stands_new es x; passes = y }))
+    (λ o. subst (λ (q : Bool). IsDoneSince q (es ++ x ∷ []) i p) (sym (ap (λ (a : Bool). a || c) o)) (done_push i p c es x was o))
 
 done_same : (i p : ℕ) (es : List Entry) (a b : Bool) → IsDoneSince a es i p → IsDoneSince b es i p → a ≡ b
 done_same i p es true true h k = refl
@@ -108,27 +108,29 @@ began_pop es x i t p low was = elim (stands_split es x (e.Begin t i was.client) 
 -- a block that is in memory came there by a landed flight, and hasn't left
 pub in_since : (i t : ℕ) (es : List Entry) (d : Bool) → place i es ≡ Here t d → (p : ℕ) × IsInSince es i t p × IsDoneSince d es i p
 in_since i t = from_end (λ (l : List Entry). (d : Bool) → place i l ≡ Here t d → (p : ℕ) × IsInSince l i t p × IsDoneSince d l i p)
-  (λ d h. absurd cc)
-  (λ xs x was d h. elim (moves_here i (place i xs) x t d (sym (place_more i xs x) ∙ h)) [
-    | inl w ↦
-        let since = out_since i t w.client xs w.flew in
-        (length xs,
-          record {
-            landed = stands_new xs x ∙ ap (λ (f : Entry). Some f) w.landed;
-            begun = record { at = since.0; client = w.client; before = slice_get_within xs since.0 (e.Begin t i w.client) since.1.begun; stands = stands_old xs x (e.Begin t i w.client) since.0 since.1.begun };
-            stays = none_last (is_left i) xs x;
-          },
-          subst (λ (q : Bool). IsDoneSince q (xs ++ x ∷ []) i (length xs)) (sym w.fresh) (none_last (is_done i) xs x))
-    | inr w ↦
-        let since = was w.done w.here in
-        (since.0,
-          record {
-            landed = stands_old xs x (e.Landed t) since.0 since.1.landed;
-            begun = began_old xs x i t since.0 since.1.begun;
-            stays = none_push (is_left i) xs x since.0 since.1.stays w.left;
-          },
-          subst (λ (q : Bool). IsDoneSince q (xs ++ x ∷ []) i since.0) (sym w.now) (done_more i since.0 w.done xs x (slice_get_within xs since.0 (e.Landed t) since.1.landed) since.2))
-  ])
+    (λ d h. absurd cc)
+    (λ xs x was d h. elim (moves_here i (place i xs) x t d (sym (place_more i xs x) ∙ h)) [
+      | inl w ↦
+          let since = out_since i t w.client xs w.flew in (
+            length xs,
+            record {
+              landed = stands_new xs x ∙ ap (λ (f : Entry). Some f) w.landed;
+              begun = record { at = since.0; client = w.client; before = slice_get_within xs since.0 (e.Begin t i w.client) since.1.begun; stands = stands_old xs x (e.Begin t i w.client) since.0 since.1.begun };
+              stays = none_last (is_left i) xs x;
+            },
+            subst (λ (q : Bool). IsDoneSince q (xs ++ x ∷ []) i (length xs)) (sym w.fresh) (none_last (is_done i) xs x),
+          )
+      | inr w ↦
+          let since = was w.done w.here in (
+            since.0,
+            record {
+              landed = stands_old xs x (e.Landed t) since.0 since.1.landed;
+              begun = began_old xs x i t since.0 since.1.begun;
+              stays = none_push (is_left i) xs x since.0 since.1.stays w.left;
+            },
+            subst (λ (q : Bool). IsDoneSince q (xs ++ x ∷ []) i since.0) (sym w.now) (done_more i since.0 w.done xs x (slice_get_within xs since.0 (e.Landed t) since.1.landed) since.2),
+          )
+    ])
 
 done_if : (q c : Bool) (t : ℕ) → (if q then Here t true else Here t c) ≡ Here t (q || c)
 done_if true c t = refl
@@ -171,19 +173,20 @@ nothing p x h = cc
 -- in a lawful log, a block that came and hasn't left is in memory
 pub still_in : (first : Start) (i t : ℕ) (es : List Entry) → Lawful first es → (p : ℕ) → IsInSince es i t p → (d : Bool) × (place i es ≡ Here t d) × IsDoneSince d es i p
 still_in first i t = along first (λ (l : List Entry). (p : ℕ) → IsInSince l i t p → (d : Bool) × (place i l ≡ Here t d) × IsDoneSince d l i p)
-  (λ p since. absurd (nothing p (e.Landed t) since.landed))
-  (λ xs x law row was p since. elim (stands_split xs x (e.Landed t) p since.landed) [
-    | inl w ↦
-        let low : p < length xs = slice_get_within xs p (e.Landed t) w in
-        let old = was p (record { landed = w; begun = began_pop xs x i t p (omega arith) since.begun; stays = none_pop (is_left i) xs x p since.stays }) in
-        (is_done i x || old.0, place_more i xs x ∙ stays_here first i t old.0 xs x row old.1 (none_now (is_left i) xs x p low since.stays), done_more i p old.0 xs x low old.2)
-    | inr w ↦
-        let fly : IsFlying t xs = subst (λ (f : Entry). Row first xs f) (sym w.0) row in
-        let own = lands_own first xs law i t p (began_pop xs x i t p (omega (arith, w.1)) since.begun) fly in
-        (false,
-          place_more i xs x ∙ ap (moves i (place i xs)) (sym w.0) ∙ ap (landing t) own.1 ∙ ap (λ (q : Bool). if q then Here t false else Flying t own.0) (eq_self t),
-          subst (λ (q : ℕ). NoneAfter (is_done i) (xs ++ x ∷ []) q) (sym w.1) (none_last (is_done i) xs x))
-  ])
+    (λ p since. absurd (nothing p (e.Landed t) since.landed))
+    (λ xs x law row was p since. elim (stands_split xs x (e.Landed t) p since.landed) [
+      | inl w ↦
+          let low : p < length xs = slice_get_within xs p (e.Landed t) w in
+          let old = was p (record { landed = w; begun = began_pop xs x i t p (omega arith) since.begun; stays = none_pop (is_left i) xs x p since.stays }) in
+          (is_done i x || old.0, place_more i xs x ∙ stays_here first i t old.0 xs x row old.1 (none_now (is_left i) xs x p low since.stays), done_more i p old.0 xs x low old.2)
+      | inr w ↦
+          let fly : IsFlying t xs = subst (λ (f : Entry). Row first xs f) (sym w.0) row in
+          let own = lands_own first xs law i t p (began_pop xs x i t p (omega (arith, w.1)) since.begun) fly in (
+            false,
+            place_more i xs x ∙ ap (moves i (place i xs)) (sym w.0) ∙ ap (landing t) own.1 ∙ ap (λ (q : Bool). if q then Here t false else Flying t own.0) (eq_self t),
+            subst (λ (q : ℕ). NoneAfter (is_done i) (xs ++ x ∷ []) q) (sym w.1) (none_last (is_done i) xs x),
+          )
+    ])
 
 pub here_exact : (first : Start) (i t : ℕ) (es : List Entry) → Lawful first es → (d : Bool) (p : ℕ) → IsInSince es i t p → IsDoneSince d es i p → place i es ≡ Here t d
 here_exact first i t es law d p since done =

@@ -37,9 +37,9 @@ begin_once first es law t i n j m p q at there =
     elim (cases_order p q) [
       | inl same ↦ same
       | inr w ↦ elim w [
-          | inl low ↦ absurd (omega (arith, one, two, pass_front is_begin es p q (e.Begin t i n) at refl low))
-          | inr high ↦ absurd (omega (arith, one, two, pass_front is_begin es q p (e.Begin t j m) there refl high))
-        ]
+        | inl low ↦ absurd (omega (arith, one, two, pass_front is_begin es p q (e.Begin t i n) at refl low))
+        | inr high ↦ absurd (omega (arith, one, two, pass_front is_begin es q p (e.Begin t j m) there refl high))
+      ]
     ]
 
 ends_flying : (first : Start) (es : List Entry) (t : ℕ) (x : Entry) → Row first es x → is_ended t x ≡ true → IsFlying t es
@@ -82,9 +82,9 @@ pub end_once : (first : Start) (es : List Entry) → Lawful first es → (t p q 
 end_once first es law t p q x y at h there k = elim (cases_order p q) [
   | inl same ↦ same
   | inr w ↦ elim w [
-      | inl low ↦ absurd (no_second first es law p q t x y at h there k low)
-      | inr high ↦ absurd (no_second first es law q p t y x there k at h high)
-    ]
+    | inl low ↦ absurd (no_second first es law p q t x y at h there k low)
+    | inr high ↦ absurd (no_second first es law q p t y x there k at h high)
+  ]
 ]
 
 -- between two begins of one block the first flight ended
@@ -155,16 +155,16 @@ owning_length ns (e.Served m served) = omega arith
 -- there is an owner for each begin
 pub owners_length : (es : List Entry) → length (owners es) ≡ begins es
 owners_length es = from_end (λ (l : List Entry). length (owners l) ≡ begins l) refl
-  (λ xs x was. ap length (owners_more xs x) ∙ owning_length (owners xs) x ∙ ap (λ (a : ℕ). a + (if is_begin x then 1 else 0)) was ∙ sym (times_more is_begin xs x)) es
+    (λ xs x was. ap length (owners_more xs x) ∙ owning_length (owners xs) x ∙ ap (λ (a : ℕ). a + (if is_begin x then 1 else 0)) was ∙ sym (times_more is_begin xs x)) es
 
 -- in a lawful log the owner of a flight is the client of the entry that began it
 pub owner_begun : (first : Start) (es : List Entry) → Lawful first es → (p t i n : ℕ) → StandsAt es p (e.Begin t i n) → owner t es ≡ Some n
 owner_begun first = along first (λ (l : List Entry). (p t i n : ℕ) → StandsAt l p (e.Begin t i n) → owner t l ≡ Some n)
-  (λ p t i n at. absurd cc)
-  (λ xs x law row was p t i n at. elim (stands_split xs x (e.Begin t i n) p at) [
-    | inl w ↦ owner_more xs x t n (was p t i n w)
-    | inr w ↦
-        let may : MayBegin first xs t i = subst (λ (f : Entry). Row first xs f) (sym w.0) row in
-        ap (λ (f : Entry). owner t (xs ++ f ∷ [])) (sym w.0) ∙ ap (λ (ns : List ℕ). slice_get ns t) (owners_more xs (e.Begin t i n))
-        ∙ ap (λ (k : ℕ). slice_get (owners xs ++ n ∷ []) k) (may.number ∙ sym (owners_length xs)) ∙ get_new (owners xs) n
-  ])
+    (λ p t i n at. absurd cc)
+    (λ xs x law row was p t i n at. elim (stands_split xs x (e.Begin t i n) p at) [
+      | inl w ↦ owner_more xs x t n (was p t i n w)
+      | inr w ↦
+          let may : MayBegin first xs t i = subst (λ (f : Entry). Row first xs f) (sym w.0) row in
+          ap (λ (f : Entry). owner t (xs ++ f ∷ [])) (sym w.0) ∙ ap (λ (ns : List ℕ). slice_get ns t) (owners_more xs (e.Begin t i n))
+          ∙ ap (λ (k : ℕ). slice_get (owners xs ++ n ∷ []) k) (may.number ∙ sym (owners_length xs)) ∙ get_new (owners xs) n
+    ])

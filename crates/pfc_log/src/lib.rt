@@ -4,6 +4,7 @@
 mod block_set;
 mod counts;
 mod entry;
+mod laws;
 mod log;
 mod start;
 mod text;
@@ -12,6 +13,10 @@ mod words;
 pub use block_set::BlockSet;
 pub use counts::Counts;
 pub use entry::{DropCause, Entry, Fell, Mark, Served, Spot, Stranger, Uncached, Way};
+pub use laws::{
+    direct_reads_are_bounded, lawful_growth, one_flight_at_a_time, owners_stay, places_read_back,
+    sets_read_back, tickets_are_once, uncached_logs,
+};
 pub use log::FileLog;
 pub use start::Start;
 pub use text::push_entry;
