@@ -4,5 +4,6 @@ pub mod Lawful
 pub mod Counts
 pub mod LogView
 pub mod Log
+pub mod Runs
 pub mod Text
 pub mod Positions

@@ -1,16 +1,14 @@
 //! What the core of a file writes down: entries, the views that read them, and which logs are lawful.
 #![tactic(auto)]
 
-mod block_set;
 mod counts;
 mod entry;
 mod laws;
 mod log;
+mod runs;
 mod start;
 mod text;
-mod words;
 
-pub use block_set::BlockSet;
 pub use counts::Counts;
 pub use entry::{DropCause, Entry, Fell, Mark, Served, Spot, Stranger, Uncached, Way};
 pub use laws::{
@@ -18,5 +16,6 @@ pub use laws::{
     sets_read_back, tickets_are_once, uncached_logs,
 };
 pub use log::FileLog;
+pub use runs::push_runs;
 pub use start::Start;
 pub use text::push_entry;

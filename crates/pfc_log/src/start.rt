@@ -1,5 +1,5 @@
-use crate::block_set::BlockSet;
 use crate::entry::Uncached;
+use pfc_base::BlockSet;
 
 /// How a log starts: with the blocks that the file's cinfo claimed, or without a store. The start set of a log
 /// without a store is empty.

@@ -2,16 +2,16 @@ ghost use Rattle.std.specs.Prelude.{◌≡◌, ◌∷◌, ◌++◌, OnOk};
 ghost use Rattle.pfc_log.specs.Text.{numbers_text, uncached_text, spot_text, fell_text, cause_text, way_text, entry_text_of, lines_text};
 
 use crate::entry::{DropCause, Entry, Fell, Spot, Uncached, Way};
-use crate::words::{push_number, push_word};
-use pfc_base::Memory;
+use pfc_base::{Memory, push_number, push_word};
+use std::alloc::Global;
 
 /// Adds a blank and a decimal for each number.
-fn push_numbers(out: &mut Vec<u8>, numbers: &[u64]) -> Result<(), Memory>
+fn push_numbers(alloc: Global, out: &mut Vec<u8>, numbers: &[u64]) -> Result<(), Memory>
     ensures { OnOk result (out.new.items ≡ out.old.items ++ numbers_text numbers.now) }
 {
     for n in numbers {
         push_word(out, b" ")?;
-        push_number(out, *n)?;
+        push_number(alloc, out, *n)?;
     }
     Ok(())
 }
@@ -46,30 +46,30 @@ fn push_uncached(out: &mut Vec<u8>, why: Uncached) -> Result<(), Memory>
     }
 }
 
-fn push_cause(out: &mut Vec<u8>, why: DropCause) -> Result<(), Memory>
+fn push_cause(alloc: Global, out: &mut Vec<u8>, why: DropCause) -> Result<(), Memory>
     ensures { OnOk result (out.new.items ≡ out.old.items ++ cause_text why) }
 {
     match why {
         DropCause::Full { capacity } => {
             push_word(out, b" full")?;
-            push_numbers(out, &[u64::from(capacity)])
+            push_numbers(alloc, out, &[u64::from(capacity)])
         }
         DropCause::Frozen => push_word(out, b" frozen"),
         DropCause::There => push_word(out, b" there"),
     }
 }
 
-fn push_way(out: &mut Vec<u8>, why: Way) -> Result<(), Memory>
+fn push_way(alloc: Global, out: &mut Vec<u8>, why: Way) -> Result<(), Memory>
     ensures { OnOk result (out.new.items ≡ out.old.items ++ way_text why) }
 {
     match why {
         Way::Full { found, want, limit } => {
             push_word(out, b" full")?;
-            push_numbers(out, &[found, want, limit])
+            push_numbers(alloc, out, &[found, want, limit])
         }
         Way::Lost { ticket } => {
             push_word(out, b" lost")?;
-            push_numbers(out, &[ticket])
+            push_numbers(alloc, out, &[ticket])
         }
         Way::Device => push_word(out, b" device"),
         Way::Uncached(why) => push_uncached(out, why),
@@ -77,26 +77,27 @@ fn push_way(out: &mut Vec<u8>, why: Way) -> Result<(), Memory>
 }
 
 /// Adds a word and numbers behind it.
-fn push_line(out: &mut Vec<u8>, word: &[u8], numbers: &[u64]) -> Result<(), Memory>
+fn push_line(alloc: Global, out: &mut Vec<u8>, word: &[u8], numbers: &[u64]) -> Result<(), Memory>
     ensures { OnOk result (out.new.items ≡ out.old.items ++ word.now ++ numbers_text numbers.now) }
 {
     push_word(out, word)?;
-    push_numbers(out, numbers)
+    push_numbers(alloc, out, numbers)
 }
 
 /// Adds the text of an entry. Where memory is refused, a part of the text may stand.
-pub fn push_entry(out: &mut Vec<u8>, entry: &Entry) -> Result<(), Memory>
+pub fn push_entry(alloc: Global, out: &mut Vec<u8>, entry: &Entry) -> Result<(), Memory>
     ensures { OnOk result (out.new.items ≡ out.old.items ++ entry_text_of entry.now) }
 {
     match *entry {
-        Entry::Opened { client } => push_line(out, b"opened", &[u64::from(client)]),
-        Entry::Closed { client } => push_line(out, b"closed", &[u64::from(client)]),
+        Entry::Opened { client } => push_line(alloc, out, b"opened", &[u64::from(client)]),
+        Entry::Closed { client } => push_line(alloc, out, b"closed", &[u64::from(client)]),
         Entry::Begin {
             ticket,
             block,
             client,
         } => {
             push_line(
+                alloc,
                 out,
                 b"begin",
                 &[ticket, u64::from(block), u64::from(client)],
@@ -106,36 +107,49 @@ pub fn push_entry(out: &mut Vec<u8>, entry: &Entry) -> Result<(), Memory>
             ticket,
             block,
             client,
-        } => { push_line(out, b"join", &[ticket, u64::from(block), u64::from(client)]) }
+        } => {
+            push_line(
+                alloc,
+                out,
+                b"join",
+                &[ticket, u64::from(block), u64::from(client)],
+            )
+        }
         Entry::Hit {
             block,
             place,
             client,
         } => {
-            push_line(out, b"hit", &[u64::from(block)])?;
+            push_line(alloc, out, b"hit", &[u64::from(block)])?;
             push_spot(out, place)?;
-            push_numbers(out, &[u64::from(client)])
+            push_numbers(alloc, out, &[u64::from(client)])
         }
         Entry::Direct { block, client, why } => {
-            push_line(out, b"direct", &[u64::from(block), u64::from(client)])?;
-            push_way(out, why)
+            push_line(
+                alloc,
+                out,
+                b"direct",
+                &[u64::from(block), u64::from(client)],
+            )?;
+            push_way(alloc, out, why)
         }
-        Entry::Landed { ticket } => push_line(out, b"landed", &[ticket]),
+        Entry::Landed { ticket } => push_line(alloc, out, b"landed", &[ticket]),
         Entry::Failed { ticket, why } => {
-            push_line(out, b"failed", &[ticket])?;
+            push_line(alloc, out, b"failed", &[ticket])?;
             push_fell(out, why)
         }
         Entry::Dropped { block, why } => {
-            push_line(out, b"dropped", &[u64::from(block)])?;
-            push_cause(out, why)
+            push_line(alloc, out, b"dropped", &[u64::from(block)])?;
+            push_cause(alloc, out, why)
         }
-        Entry::Wrote { block } => push_line(out, b"wrote", &[u64::from(block)]),
-        Entry::Left { block } => push_line(out, b"left", &[u64::from(block)]),
+        Entry::Wrote { block } => push_line(alloc, out, b"wrote", &[u64::from(block)]),
+        Entry::Left { block } => push_line(alloc, out, b"left", &[u64::from(block)]),
         Entry::Synced => push_word(out, b"synced"),
-        Entry::Claimed { at, count } => push_line(out, b"claimed", &[at, u64::from(count)]),
+        Entry::Claimed { at, count } => push_line(alloc, out, b"claimed", &[at, u64::from(count)]),
         Entry::Frozen => push_word(out, b"frozen"),
         Entry::WrittenOff => push_word(out, b"written_off"),
         Entry::Served { client, served } => push_line(
+            alloc,
             out,
             b"served",
             &[
