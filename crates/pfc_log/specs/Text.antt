@@ -13,6 +13,9 @@ use Rattle.pfc_log.specs.declared.entry.Way.{Way}
 use Rattle.pfc_log.specs.declared.entry.Way.TheVariants as way
 use Rattle.pfc_log.specs.declared.entry.Uncached.{Uncached}
 use Rattle.pfc_log.specs.declared.entry.Uncached.TheVariants.{Suffix, Blocks, Volume, Shell, Strayed}
+use Rattle.pfc_log.specs.declared.start.Start.{Start}
+use Rattle.pfc_log.specs.declared.start.Start.TheVariants as start
+use Rattle.pfc_log.specs.Runs.{runs_of, runs_text}
 
 -- a blank before each number
 abbrev pub numbers_text : List ℕ → List ℕ
@@ -68,3 +71,12 @@ entry_text_of (Served client served) = codes "served" ++ numbers_text (client �
 abbrev pub lines_text : List Entry → List ℕ
 lines_text [] = []
 lines_text (e ∷ es) = entry_text_of e ++ 10 ∷ lines_text es
+
+-- how a log starts: with the runs of the blocks that its cinfo claimed, or uncached for a cause
+abbrev pub start_text : Start → List ℕ
+start_text (start.Stored set) = codes " stored " ++ runs_text (runs_of set)
+start_text (start.Uncached why) = uncached_text why
+
+-- the section of one log: a line for its file and its start, and a line for each entry
+abbrev pub log_text : List ℕ → Start → List Entry → List ℕ
+log_text path first es = codes "log " ++ path ++ start_text first ++ 10 ∷ lines_text es

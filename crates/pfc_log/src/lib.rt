@@ -7,6 +7,8 @@ mod laws;
 mod log;
 mod runs;
 mod start;
+#[cfg(test)]
+mod tests;
 mod text;
 
 pub use counts::Counts;
@@ -16,6 +18,6 @@ pub use laws::{
     sets_read_back, tickets_are_once, uncached_logs,
 };
 pub use log::FileLog;
-pub use runs::push_runs;
+pub use runs::{push_runs, push_set};
 pub use start::Start;
-pub use text::push_entry;
+pub use text::{push_entry, push_log};

@@ -1,7 +1,7 @@
 ghost use Rattle.std.specs.Prelude.{◌≡◌, ◌++◌, OnOk};
-ghost use Rattle.pfc_log.specs.Runs.{run_text, more_runs_text, runs_text};
+ghost use Rattle.pfc_log.specs.Runs.{run_text, more_runs_text, runs_of, runs_text};
 
-use pfc_base::{Memory, push_number, push_word};
+use pfc_base::{BlockSet, Memory, push_number, push_word};
 use std::alloc::Global;
 
 fn push_run(alloc: Global, out: &mut Vec<u8>, run: (u32, u32)) -> Result<(), Memory>
@@ -33,4 +33,12 @@ pub fn push_runs(alloc: Global, out: &mut Vec<u8>, runs: &[(u32, u32)]) -> Resul
             push_more_runs(alloc, out, more)
         }
     }
+}
+
+/// Adds the text of a set's runs. Where memory is refused, a part of the text may stand.
+pub fn push_set(alloc: Global, out: &mut Vec<u8>, set: &BlockSet) -> Result<(), Memory>
+    ensures { OnOk result (out.new.items ≡ out.old.items ++ runs_text (runs_of set.now)) }
+{
+    let runs = set.runs(alloc)?;
+    push_runs(alloc, out, &runs)
 }

@@ -1,8 +1,11 @@
 ghost use Rattle.std.specs.Prelude.{◌≡◌, ◌∷◌, ◌++◌, OnOk};
-ghost use Rattle.pfc_log.specs.Text.{numbers_text, uncached_text, spot_text, fell_text, cause_text, way_text, entry_text_of, lines_text};
+ghost use Rattle.pfc_log.specs.Text.{numbers_text, uncached_text, spot_text, fell_text, cause_text, way_text, entry_text_of, lines_text, start_text, log_text};
 
 use crate::entry::{DropCause, Entry, Fell, Spot, Uncached, Way};
-use pfc_base::{Memory, push_number, push_word};
+use crate::log::FileLog;
+use crate::runs::push_set;
+use crate::start::Start;
+use pfc_base::{Memory, Path, push_number, push_word};
 use std::alloc::Global;
 
 /// Adds a blank and a decimal for each number.
@@ -160,4 +163,38 @@ pub fn push_entry(alloc: Global, out: &mut Vec<u8>, entry: &Entry) -> Result<(),
             ],
         ),
     }
+}
+
+fn push_start(alloc: Global, out: &mut Vec<u8>, start: &Start) -> Result<(), Memory>
+    ensures { OnOk result (out.new.items ≡ out.old.items ++ start_text start.now) }
+{
+    match start {
+        Start::Stored(set) => {
+            push_word(out, b" stored ")?;
+            push_set(alloc, out, set)
+        }
+        Start::Uncached(why) => push_uncached(out, *why),
+    }
+}
+
+fn push_lines(alloc: Global, out: &mut Vec<u8>, entries: &[Entry]) -> Result<(), Memory>
+    ensures { OnOk result (out.new.items ≡ out.old.items ++ lines_text entries.now) }
+{
+    for entry in entries {
+        push_entry(alloc, out, entry)?;
+        push_word(out, b"\n")?;
+    }
+    Ok(())
+}
+
+/// Adds the section of a log: a line for its file and how it starts, and a line for each entry. Where memory is refused,
+/// a part of the text may stand.
+pub fn push_log(alloc: Global, out: &mut Vec<u8>, path: &Path, log: &FileLog) -> Result<(), Memory>
+    ensures { OnOk result (out.new.items ≡ out.old.items ++ log_text path.now log.now.first log.now.entries) }
+{
+    push_word(out, b"log ")?;
+    push_word(out, path.as_bytes())?;
+    push_start(alloc, out, log.start())?;
+    push_word(out, b"\n")?;
+    push_lines(alloc, out, log.entries())
 }
