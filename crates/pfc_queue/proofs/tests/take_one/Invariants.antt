@@ -1,0 +1,6 @@
+use Rattle.pfc_queue.specs.Queue.{IsPassOf}
+use Rattle.pfc_queue.proofs.tests.take_one.Given as goal
+
+abbrev pub invariant-loop : goal.invariant-loop
+invariant-loop g l =
+    (goal.iterator-loop g).can_next l.iterator' × (goal.iterator-loop g).is_finite l.iterator' × IsPassOf l.queue l.pass
