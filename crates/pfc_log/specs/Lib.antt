@@ -1,0 +1,9 @@
+pub mod Views
+pub mod Owners
+pub mod Lawful
+pub mod Counts
+pub mod LogView
+pub mod Log
+pub mod Runs
+pub mod Text
+pub mod Positions
