@@ -1,3 +1,4 @@
+pub mod Permitted
 pub mod Replies
 pub mod Requests
 pub mod Session

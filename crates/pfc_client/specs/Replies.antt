@@ -1,5 +1,6 @@
 -- The texts of replies.
 use Rattle.std.specs.Prelude.{ℕ, List, [], ◌∷◌, ◌++◌, length, codes}
+use Rattle.std.specs.List.{flat_map}
 use Rattle.std.specs.Fmt.{decimal}
 use Rattle.hex.specs.Hex.{encode_lower}
 use Rattle.pfc_client.specs.declared.reply.Reply.{Reply}
@@ -22,12 +23,15 @@ reply_text_of r.NoFile = codes "error nofile"
 reply_text_of r.Fetch = codes "error fetch"
 reply_text_of r.Memory = codes "error memory"
 
--- one line for each reply
-abbrev pub reply_lines : List Reply → List ℕ
-reply_lines [] = []
-reply_lines (reply ∷ replies) = reply_text_of reply ++ 10 ∷ reply_lines replies
+-- the line of a reply
+abbrev pub line_text : Reply → List ℕ
+line_text reply = reply_text_of reply ++ codes "\n"
 
--- what is printed of a client: its number and its replies, or nothing where it was asked nothing
+-- the line that names a client
+abbrev pub head_text : ℕ → List ℕ
+head_text number = codes "client " ++ decimal number ++ codes "\n"
+
+-- what is printed of a client: its number and its replies, a line each, or nothing where it was asked nothing
 abbrev pub client_text : ℕ → List Reply → List ℕ
 client_text number [] = []
-client_text number (reply ∷ replies) = codes "client " ++ decimal number ++ 10 ∷ reply_lines (reply ∷ replies)
+client_text number (reply ∷ replies) = head_text number ++ flat_map line_text (reply ∷ replies)

@@ -1,0 +1,107 @@
+-- Which replies a client may be told: the plain ones, and what may stand in their place.
+use Rattle.std.specs.Prelude.{◌≡◌, ℕ, ◌-◌, ◌<◌, ◌≤◌, ◌⊎◌, min, Bool, true, false, List, [], ◌∷◌, length, replicate, slice_set, count_by, map, IsTrue, MatchBool, Option, Some, None, is_some, option_map, IsSomeAnd, Result, Ok, Err, ⊤}
+use Rattle.pfc_base.specs.Block.{slice_of}
+use Rattle.pfc_base.specs.declared.block.Piece.{Piece}
+use Rattle.pfc_world.specs.Files.{Files, file_at, size_at, HasSize}
+use Rattle.pfc_world.specs.Counts.{RoseBy}
+use Rattle.pfc_client.specs.declared.request.Request.{Request}
+use Rattle.pfc_client.specs.declared.request.Request.TheVariants.{Open, Read, Close}
+use Rattle.pfc_client.specs.declared.request.RequestRefusal.{RequestRefusal}
+use Rattle.pfc_client.specs.declared.request.RequestRefusal.TheVariants as refusal
+use Rattle.pfc_client.specs.declared.reply.Reply.{Reply}
+use Rattle.pfc_client.specs.declared.reply.Reply.TheVariants as r
+use Rattle.pfc_client.specs.Requests.{request_of}
+use Rattle.pfc_client.specs.Session.{place_at, is_free}
+
+-- an open file: its path, and its size in bytes
+abbrev pub File : Type 0
+File = List ℕ × ℕ
+
+-- the file that is open at each descriptor
+abbrev pub Table : Type 0
+Table = List (Option File)
+
+abbrev pub nothing_open : Table
+nothing_open = replicate 16 None
+
+-- how many bytes a piece has, cut at the end of the file
+abbrev pub piece_len : ℕ → Piece → ℕ
+piece_len size piece = min piece.len (size - piece.off)
+
+-- These are the bytes of the piece, cut at the end of the file. Where the world isn't told their number alone is said.
+abbrev pub IsPiece : Bool → Files → File → Piece → List ℕ → Type 0
+IsPiece told files file piece bytes =
+    (length bytes ≡ piece_len file.1 piece) × (IsTrue told → IsSomeAnd (file_at files file.0) (λ all. bytes ≡ slice_of all piece.off piece.len))
+
+-- the most bytes of one read
+abbrev pub most_bytes : ℕ
+most_bytes = 16777216
+
+-- the plain reply to an open at a free descriptor: the file's size, or that there is none
+abbrev pub Opens : Bool → Files → Table → ℕ → List ℕ → Reply → Table → Type 0
+Opens told files table number path (r.Size size) new = HasSize told files path size × (new ≡ slice_set table number (Some (path, size)))
+Opens told files table number path r.NoFile new = (IsTrue told → size_at files path ≡ None) × (new ≡ table)
+Opens told files table number path _ new = ⊥
+
+-- the plain reply to a read of what is open at a descriptor
+abbrev pub Reads : Bool → Files → Option File → Piece → Reply → Type 0
+Reads told files None piece reply = reply ≡ r.Descriptor
+Reads told files (Some file) piece reply =
+    (most_bytes < piece.len × (reply ≡ r.Range)) ⊎ (piece.len ≤ most_bytes × (bytes : List ℕ) × IsPiece told files file piece bytes × (reply ≡ r.Bytes bytes))
+
+-- the plain reply to a line, and the table after it
+abbrev pub Plain : Bool → Files → Table → Result Request RequestRefusal → Reply → Table → Type 0
+Plain told files table (Err refusal.Form) reply new = (reply ≡ r.Request) × (new ≡ table)
+Plain told files table (Err refusal.Path) reply new = (reply ≡ r.Path) × (new ≡ table)
+Plain told files table (Ok (Open number path)) reply new =
+    MatchBool (is_free table number) (Opens told files table number path reply new) ((reply ≡ r.Descriptor) × (new ≡ table))
+Plain told files table (Ok (Read number piece)) reply new = Reads told files (place_at table number) piece reply × (new ≡ table)
+Plain told files table (Ok (Close number)) reply new =
+    MatchBool (is_some (place_at table number)) ((reply ≡ r.Closed) × (new ≡ slice_set table number None)) ((reply ≡ r.Descriptor) × (new ≡ table))
+
+-- a plain reply that only the origin can give
+abbrev pub NeedsOrigin : Reply → Type 0
+NeedsOrigin (r.Size size) = ⊤
+NeedsOrigin r.NoFile = ⊤
+NeedsOrigin (r.Bytes bytes) = 0 < length bytes
+NeedsOrigin _ = ⊥
+
+-- the plain reply, or a failed fetch in the place of one that only the origin can give, or want of memory
+abbrev pub Permits : Bool → Files → Table → Result Request RequestRefusal → Reply → Table → Type 0
+Permits told files table request r.Fetch new =
+    (plain : Reply) × (after : Table) × Plain told files table request plain after × NeedsOrigin plain × (new ≡ table)
+Permits told files table request r.Memory new = new ≡ table
+Permits told files table request reply new = Plain told files table request reply new
+
+-- each reply is permitted, one after the other, from this table to that
+abbrev pub Walk : Bool → Files → Table → List (List ℕ) → List Reply → Table → Type 0
+Walk told files old [] [] new = new ≡ old
+Walk told files old (line ∷ lines) (reply ∷ replies) new =
+    (mid : Table) × Permits told files old (request_of line) reply mid × Walk told files mid lines replies new
+Walk told files old [] (reply ∷ replies) new = ⊥
+Walk told files old (line ∷ lines) [] new = ⊥
+
+-- each reply is the plain one
+abbrev pub PlainWalk : Bool → Files → Table → List (List ℕ) → List Reply → Table → Type 0
+PlainWalk told files old [] [] new = new ≡ old
+PlainWalk told files old (line ∷ lines) (reply ∷ replies) new =
+    (mid : Table) × Plain told files old (request_of line) reply mid × PlainWalk told files mid lines replies new
+PlainWalk told files old [] (reply ∷ replies) new = ⊥
+PlainWalk told files old (line ∷ lines) [] new = ⊥
+
+abbrev pub is_fetch : Reply → Bool
+is_fetch r.Fetch = true
+is_fetch _ = false
+
+abbrev pub is_memory : Reply → Bool
+is_memory r.Memory = true
+is_memory _ = false
+
+-- The permitted replies to these lines, where the count of the client's own link's faults was this and is that.
+pub record ArePermitted (told : Bool) (files : Files) (lines : List (List ℕ)) (replies : List Reply) (before after : ℕ) : Type 0 where
+  pub walk : (end : Table) × Walk told files nothing_open lines replies end
+  pub faults : RoseBy before (count_by is_fetch replies) after
+
+-- the plain replies to these lines
+abbrev pub ArePlain : Bool → Files → List (List ℕ) → List Reply → Type 0
+ArePlain told files lines replies = (end : Table) × PlainWalk told files nothing_open lines replies end
