@@ -1,0 +1,10 @@
+//! The replay: requests in an order that a schedule names, and the theorem on their replies.
+#![tactic(auto)]
+
+mod replay;
+mod schedule;
+mod serve;
+mod words;
+mod write;
+
+pub use replay::run_replay;
