@@ -1,0 +1,4 @@
+//! The directives of a cache: the lines of a site's configuration that begin with `pfc.`, taken or refused by line.
+#![tactic(auto)]
+
+mod words;
