@@ -9,6 +9,6 @@ mod pieces;
 
 pub use block::{Part, Piece, block_count, block_len, slice};
 pub use memory::Memory;
-pub use number::{decimal, size};
+pub use number::{decimal, digits, size};
 pub use path::{Path, PathRefusal};
 pub use pieces::next_piece;

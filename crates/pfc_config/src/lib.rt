@@ -1,4 +1,9 @@
 //! The directives of a cache: the lines of a site's configuration that begin with `pfc.`, taken or refused by line.
 #![tactic(auto)]
 
+mod directive;
+mod mark;
+mod refusal;
 mod words;
+
+pub use refusal::Kind;
