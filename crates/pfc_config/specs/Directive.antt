@@ -1,10 +1,12 @@
 -- The table of the directives.
-use Rattle.std.specs.Prelude.{ℕ, ◌+◌, ◌*◌, ◌/◌, ◌%◌, ◌^◌, ◌==◌, nat_eq, nat_lt, nat_le, Bool, true, false, ◌&&◌, not, List, [], ◌∷◌, length, slice_index, drop, codes, Option, Some, None, option_map, is_none, if◌then◌else◌}
+use Rattle.std.specs.Prelude.{◌≡◌, Result, Ok, Err, ℕ, ◌+◌, ◌*◌, ◌/◌, ◌%◌, ◌^◌, ◌==◌, nat_eq, nat_lt, nat_le, Bool, true, false, ◌&&◌, not, List, [], ◌∷◌, length, slice_index, drop, codes, Option, Some, None, option_map, is_none, if◌then◌else◌}
 use Rattle.std.specs.List.{starts_with, filter_map, list_any}
 use Rattle.std.specs.Cmp.Lexicographic.{pointwise}
 use Rattle.pfc_base.specs.Number.{decimal_of, digits_from, size_of_text}
 use Rattle.pfc_config.specs.declared.directive.Directive.{Directive}
 use Rattle.pfc_config.specs.declared.directive.Directive.TheVariants.{BlockSize, Ram, Prefetch, WriteQueue, Flush, DiskUsage, User, Spaces, Trace}
+use Rattle.pfc_config.specs.declared.setting.Setting.{Setting}
+use Rattle.pfc_config.specs.declared.setting.Setting.TheVariants as set
 use Rattle.pfc_config.specs.declared.refusal.Kind.{Kind}
 use Rattle.pfc_config.specs.declared.refusal.Kind.TheVariants.{Arity, Number, Range}
 
@@ -95,3 +97,26 @@ kind_of_args capacity directive args =
     else if list_any (λ word. is_none (value_of capacity (row_of directive).form word)) args then Some Number
     else if not (is_in_range capacity directive (values_of capacity directive args)) then Some Range
     else None
+
+-- what a line sets
+abbrev pub directive_set : Setting → Directive
+directive_set (set.BlockSize bytes) = BlockSize
+directive_set (set.Ram bytes) = Ram
+directive_set (set.Prefetch blocks) = Prefetch
+directive_set (set.WriteQueue queue writers) = WriteQueue
+directive_set (set.Flush blocks) = Flush
+directive_set (set.DiskUsage low high) = DiskUsage
+
+abbrev pub values_set : Setting → List ℕ
+values_set (set.BlockSize bytes) = bytes ∷ []
+values_set (set.Ram bytes) = bytes ∷ []
+values_set (set.Prefetch blocks) = blocks ∷ []
+values_set (set.WriteQueue queue writers) = queue ∷ writers ∷ []
+values_set (set.Flush blocks) = blocks ∷ []
+values_set (set.DiskUsage low high) = low ∷ high ∷ []
+
+-- these words behind a directive are read as they are: what they set, or the first fault
+abbrev pub ReadsArgs : ℕ → Directive → List (List ℕ) → Result Setting Kind → Type 0
+ReadsArgs capacity directive args (Ok setting) =
+    (kind_of_args capacity directive args ≡ None) × (directive_set setting ≡ directive) × (values_of capacity directive args ≡ values_set setting)
+ReadsArgs capacity directive args (Err kind) = kind_of_args capacity directive args ≡ Some kind

@@ -4,6 +4,7 @@
 mod directive;
 mod mark;
 mod refusal;
+mod setting;
 mod words;
 
 pub use refusal::Kind;
