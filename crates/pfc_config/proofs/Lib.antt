@@ -1,2 +1,3 @@
 pub mod Fractions
+pub mod Names
 pub mod Worded

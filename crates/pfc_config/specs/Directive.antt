@@ -115,8 +115,17 @@ values_set (set.WriteQueue queue writers) = queue ∷ writers ∷ []
 values_set (set.Flush blocks) = blocks ∷ []
 values_set (set.DiskUsage low high) = low ∷ high ∷ []
 
--- these words behind a directive are read as they are: what they set, or the first fault
+-- what these words behind a directive set, or their first fault
 abbrev pub ReadsArgs : ℕ → Directive → List (List ℕ) → Result Setting Kind → Type 0
 ReadsArgs capacity directive args (Ok setting) =
     (kind_of_args capacity directive args ≡ None) × (directive_set setting ≡ directive) × (values_of capacity directive args ≡ values_set setting)
 ReadsArgs capacity directive args (Err kind) = kind_of_args capacity directive args ≡ Some kind
+
+abbrev pub has_default : Directive → Bool
+has_default directive = nat_lt 0 (length (row_of directive).default)
+
+-- the same, where a directive may set nothing
+abbrev pub TakesArgs : ℕ → Directive → List (List ℕ) → Result (Option Setting) Kind → Type 0
+TakesArgs capacity directive args (Ok (Some setting)) = ReadsArgs capacity directive args (Ok setting)
+TakesArgs capacity directive args (Ok None) = (kind_of_args capacity directive args ≡ None) × (has_default directive ≡ false)
+TakesArgs capacity directive args (Err kind) = ReadsArgs capacity directive args (Err kind)

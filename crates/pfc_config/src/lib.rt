@@ -2,6 +2,7 @@
 #![tactic(auto)]
 
 mod directive;
+mod line;
 mod mark;
 mod refusal;
 mod setting;

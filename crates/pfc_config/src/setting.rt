@@ -1,9 +1,10 @@
 // What the words behind a directive set.
 ghost use Rattle.std.specs.Prelude.{◌≡◌, ◌≢◌, ℕ, ◌∷◌, [], length, MatchResult};
-ghost use Rattle.pfc_config.specs.Directive.{ReadsArgs};
+ghost use Rattle.pfc_config.specs.Directive.{ReadsArgs, TakesArgs};
 ghost use Rattle.pfc_config.specs.Words.{words_of};
 ghost use Rattle.pfc_config.specs.declared.directive.Directive.TheVariants as directive;
 
+use crate::directive::Directive;
 use crate::mark::mark;
 use crate::refusal::Kind;
 use crate::words::next_word;
@@ -62,4 +63,78 @@ fn block_size(args: &[u8]) -> Result<Setting, Kind>
         return Err(Kind::Range);
     }
     Ok(Setting::BlockSize(bytes))
+}
+
+fn ram(args: &[u8]) -> Result<Setting, Kind>
+    ensures { ReadsArgs 0 directive.Ram (words_of args.now) result }
+{
+    let bytes = size(one_word(args)?).ok_or(Kind::Number)?;
+    if bytes > RAM_MAX {
+        return Err(Kind::Range);
+    }
+    Ok(Setting::Ram(bytes))
+}
+
+fn prefetch(args: &[u8]) -> Result<Setting, Kind>
+    ensures { ReadsArgs 0 directive.Prefetch (words_of args.now) result }
+{
+    let blocks = decimal(one_word(args)?).ok_or(Kind::Number)?;
+    if blocks > PREFETCH_MAX {
+        return Err(Kind::Range);
+    }
+    Ok(Setting::Prefetch(blocks as u32))
+}
+
+fn write_queue(args: &[u8]) -> Result<Setting, Kind>
+    ensures { ReadsArgs 0 directive.WriteQueue (words_of args.now) result }
+{
+    let (jobs, writers) = two_words(args)?;
+    let jobs = decimal(jobs).ok_or(Kind::Number)?;
+    let writers = decimal(writers).ok_or(Kind::Number)?;
+    if jobs < 1 || jobs > QUEUE_MAX || writers < 1 || writers > WRITERS_MAX {
+        return Err(Kind::Range);
+    }
+    Ok(Setting::WriteQueue(jobs as u32, writers as u32))
+}
+
+fn flush(args: &[u8]) -> Result<Setting, Kind>
+    ensures { ReadsArgs 0 directive.Flush (words_of args.now) result }
+{
+    let blocks = decimal(one_word(args)?).ok_or(Kind::Number)?;
+    if blocks < 1 || blocks > FLUSH_MAX {
+        return Err(Kind::Range);
+    }
+    Ok(Setting::Flush(blocks))
+}
+
+fn disk_usage(args: &[u8], capacity: u64) -> Result<Setting, Kind>
+    ensures { ReadsArgs capacity directive.DiskUsage (words_of args.now) result }
+{
+    let (low, high) = two_words(args)?;
+    let low = mark(capacity, low).ok_or(Kind::Number)?;
+    let high = mark(capacity, high).ok_or(Kind::Number)?;
+    if low >= high || high > capacity {
+        return Err(Kind::Range);
+    }
+    Ok(Setting::DiskUsage(low, high))
+}
+
+/// What the words behind a directive set, if it sets anything.
+pub(crate) fn read_args(
+    directive: Directive,
+    args: &[u8],
+    capacity: u64,
+) -> Result<Option<Setting>, Kind>
+    ensures { TakesArgs capacity directive (words_of args.now) result }
+{
+    match directive {
+        Directive::BlockSize => block_size(args).map(Some),
+        Directive::Ram => ram(args).map(Some),
+        Directive::Prefetch => prefetch(args).map(Some),
+        Directive::WriteQueue => write_queue(args).map(Some),
+        Directive::Flush => flush(args).map(Some),
+        Directive::DiskUsage => disk_usage(args, capacity).map(Some),
+        Directive::User | Directive::Trace => one_word(args).map(|_| None),
+        Directive::Spaces => two_words(args).map(|_| None),
+    }
 }
