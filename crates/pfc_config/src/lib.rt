@@ -1,11 +1,14 @@
 //! The directives of a cache: the lines of a site's configuration that begin with `pfc.`, taken or refused by line.
 #![tactic(auto)]
 
+mod config;
 mod directive;
 mod line;
 mod mark;
 mod refusal;
 mod setting;
+mod settings;
 mod words;
 
-pub use refusal::Kind;
+pub use config::Config;
+pub use refusal::{ConfigRefusal, Kind};
