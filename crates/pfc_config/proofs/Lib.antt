@@ -1,3 +1,4 @@
 pub mod Fractions
 pub mod Names
+pub mod Settled
 pub mod Worded

@@ -19,7 +19,7 @@ named : (directive : Directive) → is_word [] (row_of directive).name ≡ false
 named BlockSize = refl
 named directive = refl
 
-same_word : (word name : List ℕ) → is_word word name ≡ true → word ≡ name
+pub same_word : (word name : List ℕ) → is_word word name ≡ true → word ≡ name
 same_word word name h = (bytes_eq-Decides word name).0 h
 
 -- a word that isn't ours names no directive

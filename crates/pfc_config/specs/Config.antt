@@ -1,7 +1,7 @@
 -- What a whole configuration comes to: the first bad line, or what its directives are set to.
-use Rattle.std.specs.Prelude.{◌≡◌, ℕ, ◌+◌, ◌*◌, nat_lt, Bool, true, false, ◌&&◌, List, [], ◌∷◌, ◌++◌, length, slice_index, Option, Some, None, option_map, unwrap_or, Result, Ok, Err, position, if◌then◌else◌}
+use Rattle.std.specs.Prelude.{◌≡◌, ℕ, ◌+◌, ◌*◌, nat_lt, Bool, true, false, ◌&&◌, List, [], ◌∷◌, ◌++◌, length, slice_index, Option, Some, None, option_map, unwrap_or, Result, Ok, Err, if◌then◌else◌}
 use Rattle.std.specs.Option.{option_map_or}
-use Rattle.std.specs.List.{find, list_any}
+use Rattle.std.specs.List.{find, list_any, position_from}
 use Rattle.pfc_base.specs.Pieces.{pieces_of}
 use Rattle.pfc_config.specs.Words.{words_of}
 use Rattle.pfc_config.specs.Directive.{directive_of, row_of, has_default, values_of}
@@ -33,9 +33,9 @@ first_bad capacity before (line ∷ lines) =
 abbrev pub set_in : ℕ → Directive → List (List ℕ) → Option (List ℕ)
 set_in capacity directive lines = option_map (λ line. values_of capacity directive (args_of (words_of line))) (find (is_line_of directive) lines)
 
--- the number of that line
+-- the number of that line, counted from 1
 abbrev pub number_in : Directive → List (List ℕ) → Option ℕ
-number_in directive lines = option_map (λ place. place + 1) (position (is_line_of directive) lines)
+number_in directive lines = position_from (is_line_of directive) 1 lines
 
 -- the configuration in which each directive has these values
 abbrev pub config_by : (Directive → List ℕ) → Config
