@@ -1,4 +1,5 @@
 pub mod Fractions
 pub mod Names
+pub mod Reading
 pub mod Settled
 pub mod Worded

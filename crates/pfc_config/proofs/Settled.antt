@@ -8,10 +8,12 @@ use Rattle.std.proofs.lemmas.List.Folds.{find-append}
 use Rattle.pfc_config.specs.Words.{words_of}
 use Rattle.pfc_config.specs.Directive.{is_word, row_of, has_default, directive_of, directive_set, values_set, values_of}
 use Rattle.pfc_config.specs.Line.{is_line_of, first_of, args_of, kind_alone, ReadsLine}
-use Rattle.pfc_config.specs.Config.{is_twice, kind_of, set_in, number_in}
+use Rattle.pfc_config.specs.Config.{is_twice, kind_of, set_in, number_in, first_bad, config_by, or_default, with_room}
 use Rattle.pfc_config.specs.Settings.{set_by, ram_line, AreSetBy}
 use Rattle.pfc_config.specs.declared.settings.Settings.{Settings}
 use Rattle.pfc_config.specs.declared.setting.Setting.{Setting}
+use Rattle.pfc_config.specs.declared.refusal.Kind.{Kind}
+use Rattle.pfc_config.specs.declared.refusal.Kind.TheVariants.{Twice}
 use Rattle.pfc_config.specs.declared.setting.Setting.TheVariants as set
 use Rattle.pfc_config.specs.declared.directive.Directive.{Directive}
 use Rattle.pfc_config.specs.declared.directive.Directive.TheVariants.{BlockSize, Ram, Prefetch, WriteQueue, Flush, DiskUsage, User, Spaces, Trace}
@@ -167,3 +169,26 @@ sets_some capacity number before line setting old new are n reads first values r
         | inr other ↦ ram ∙ ap (λ (b : Bool). cond b (Some number) (ram_line old)) other ∙ are.line ∙ sym (position-other (is_line_of Ram) before line (test Ram ∙ other))
       ];
     }
+
+pub kind_of-alone : (capacity : ℕ) (before : List (List ℕ)) (line : List ℕ) (twice : Bool) → kind_alone capacity line ≡ None → is_twice before line ≡ twice →
+    kind_of capacity before line ≡ cond twice (Some Twice) None
+kind_of-alone capacity before line twice alone is =
+    ap (λ (o : Option Kind). option_map_or (λ (k : Kind). Some k) o (cond (is_twice before line) (Some Twice) None)) alone
+    ∙ ap (λ (b : Bool). cond b (Some Twice) None) is
+
+pub is_some-not : {A : Type 0} (o : Option A) → is_some o ≡ false → o ≡ None
+is_some-not None h = refl
+is_some-not (Some x) h = cc
+
+pub none_set : (capacity : ℕ) (settings : Settings) → ((directive : Directive) → set_by settings directive ≡ None) → AreSetBy capacity [] settings
+none_set capacity settings h = record {
+  values = λ d sets. h d;
+  line = ap (option_map (λ (ram : ℕ × ℕ). ram.1)) (option_map-none (λ (ram : ℕ × ℕ). ram.0 ∷ []) settings.ram (h Ram));
+}
+
+-- the configuration of settings is that of the lines that made them
+pub config_by-set : (capacity : ℕ) (lines : List (List ℕ)) (settings : Settings) → AreSetBy capacity lines settings →
+    with_room (ram_line settings) (config_by (or_default capacity (set_by settings)))
+    ≡ with_room (number_in Ram lines) (config_by (or_default capacity (λ directive. set_in capacity directive lines)))
+config_by-set capacity lines settings are =
+    rw (are.values BlockSize refl, are.values Ram refl, are.values Prefetch refl, are.values WriteQueue refl, are.values Flush refl, are.values DiskUsage refl, are.line) refl

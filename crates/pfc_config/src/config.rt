@@ -32,3 +32,41 @@ pub struct Config {
     /// How many threads write.
     pub writers: u32,
 }
+
+/// What the lines set, one after the other, up to the first bad one.
+fn read_lines(bytes: &[u8], capacity: u64) -> Result<Settings, ConfigRefusal>
+    requires { length bytes.now ≤ 1048576 }
+    ensures { MatchResult result
+        (λ settings. (first_bad capacity [] (pieces_of 10 bytes.now) ≡ None) × AreSetBy capacity (pieces_of 10 bytes.now) settings)
+        (λ refusal. first_bad capacity [] (pieces_of 10 bytes.now) ≡ Some refusal) }
+{
+    let mut settings = Settings::new();
+    let mut rest = bytes;
+    let mut line = 1u32;
+    'lines: loop {
+        let (text, more) = next_piece(rest, b'\n');
+        if let Err(kind) = settings.take(text, line, capacity) {
+            return Err(ConfigRefusal::Bad { line, kind });
+        }
+        match more {
+            None => return Ok(settings),
+            Some(after) => rest = after,
+        }
+        line += 1;
+    }
+}
+
+/// Reads the directives of a site's configuration, for a cache of so many bytes. Lines of other components are
+/// passed over. The first bad line is refused with the first kind that fits it; memory without room for four
+/// blocks is refused last, on its own line. Takes no memory, in one pass over the lines.
+pub fn read_config(bytes: &[u8], capacity: u64) -> Result<Config, ConfigRefusal>
+    ensures { result ≡ configured bytes.now capacity }
+{
+    if bytes.len() > MOST_BYTES {
+        return Err(ConfigRefusal::Bad {
+            line: 0,
+            kind: Kind::TooLong,
+        });
+    }
+    read_lines(bytes, capacity)?.config(capacity)
+}

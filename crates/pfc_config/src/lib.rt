@@ -10,5 +10,5 @@ mod setting;
 mod settings;
 mod words;
 
-pub use config::Config;
+pub use config::{Config, read_config};
 pub use refusal::{ConfigRefusal, Kind};
