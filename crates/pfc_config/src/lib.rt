@@ -8,6 +8,8 @@ mod mark;
 mod refusal;
 mod setting;
 mod settings;
+#[cfg(test)]
+mod tests;
 mod words;
 
 pub use config::{Config, read_config};
