@@ -1,14 +1,11 @@
 -- A configuration that has been read in part.
-use Rattle.std.proofs.Common.{◌≡◌, ℕ, ◌+◌, ◌≤◌, ◌<◌, List, [], ◌∷◌, ◌++◌, length, Some, None, Ok, Err, Result, nat_lt, refl, sym, ap, ◌∙◌, cond}
+use Rattle.std.proofs.Common.{◌≡◌, ℕ, ◌+◌, ◌≤◌, ◌<◌, List, [], ◌++◌, length, Some, None, Err, refl, sym, ◌∙◌}
 use Rattle.pfc_base.specs.Pieces.{pieces_of}
 use Rattle.std.proofs.lemmas.Bool.{le-ltb, lt-ltb}
-use Rattle.std.specs.Option.{option_map_or}
-use Rattle.pfc_config.specs.Config.{first_bad, set_in, number_in, config_by, or_default, with_room, configured_lines, configured}
-use Rattle.pfc_config.specs.declared.config.Config.{Config}
+use Rattle.pfc_config.specs.Config.{first_bad, config_by, or_default, with_room, configured_lines, configured}
 use Rattle.pfc_config.specs.declared.refusal.ConfigRefusal.{ConfigRefusal}
 use Rattle.pfc_config.specs.declared.refusal.ConfigRefusal.TheVariants.{Bad}
 use Rattle.pfc_config.specs.declared.refusal.Kind.TheVariants.{TooLong}
-use Rattle.pfc_config.specs.declared.directive.Directive.TheVariants.{Ram}
 use Rattle.pfc_config.proofs.Settled.{config_by-set}
 use Rattle.pfc_config.specs.Settings.{AreSetBy, set_by, ram_line}
 use Rattle.pfc_config.specs.declared.settings.Settings.{Settings}

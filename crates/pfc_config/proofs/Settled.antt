@@ -1,5 +1,5 @@
 -- How a line changes what is set.
-use Rattle.std.proofs.Common.{◌≡◌, inl, inr, ◌⊎◌, ℕ, suc, ◌+◌, Bool, true, false, cond, ◌&&◌, ◌||◌, List, [], ◌∷◌, ◌++◌, length, Option, Some, None, Result, Ok, Err, refl, sym, ap, subst, ◌∙◌, arith}
+use Rattle.std.proofs.Common.{◌≡◌, inl, inr, ℕ, suc, ◌+◌, Bool, true, false, cond, ◌&&◌, List, [], ◌∷◌, ◌++◌, length, Option, Some, None, Ok, refl, sym, ap, subst, ◌∙◌, arith}
 use Rattle.std.specs.Option.{option_map_or, option_or, is_some, option_map}
 use Rattle.std.specs.List.{find, list_any, position_from}
 use Rattle.std.proofs.lemmas.Bool.{cases_Bool}
@@ -8,7 +8,7 @@ use Rattle.std.proofs.lemmas.List.Folds.{find-append}
 use Rattle.pfc_config.specs.Words.{words_of}
 use Rattle.pfc_config.specs.Directive.{is_word, row_of, has_default, directive_of, directive_set, values_set, values_of}
 use Rattle.pfc_config.specs.Line.{is_line_of, first_of, args_of, kind_alone, ReadsLine}
-use Rattle.pfc_config.specs.Config.{is_twice, kind_of, set_in, number_in, first_bad, config_by, or_default, with_room}
+use Rattle.pfc_config.specs.Config.{is_twice, kind_of, set_in, number_in, config_by, or_default, with_room}
 use Rattle.pfc_config.specs.Settings.{set_by, ram_line, AreSetBy}
 use Rattle.pfc_config.specs.declared.settings.Settings.{Settings}
 use Rattle.pfc_config.specs.declared.setting.Setting.{Setting}
@@ -19,7 +19,7 @@ use Rattle.pfc_config.specs.declared.directive.Directive.{Directive}
 use Rattle.pfc_config.specs.declared.directive.Directive.TheVariants.{BlockSize, Ram, Prefetch, WriteQueue, Flush, DiskUsage, User, Spaces, Trace}
 use Rattle.pfc_config.proofs.Names.{same_word}
 
-directive_of-name : (directive : Directive) → directive_of (row_of directive).name ≡ Some directive
+pub directive_of-name : (directive : Directive) → directive_of (row_of directive).name ≡ Some directive
 directive_of-name BlockSize = refl
 directive_of-name directive = refl
 

@@ -1,10 +1,9 @@
 -- How the words of a line begin: blanks in front change none, and the first ends at the first blank.
-use Rattle.std.proofs.Common.{◌≡◌, ◌≢◌, ◌⊎◌, inl, inr, ℕ, suc, zero, ◌+◌, ◌<◌, ◌≤◌, ◌==◌, Bool, true, false, cond, not, List, [], ◌∷◌, length, take, drop, filter, get_or, refl, sym, ap, ◌∙◌, arith, length-drop}
+use Rattle.std.proofs.Common.{◌≡◌, ◌≢◌, inl, inr, ℕ, suc, ◌+◌, ◌<◌, Bool, false, not, List, [], ◌∷◌, length, take, drop, filter, get_or, refl, ap, ◌∙◌, arith}
 use Rattle.std.specs.List.{prefix_len, take_while}
 use Rattle.std.proofs.lemmas.Bool.{cases_Bool}
 use Rattle.std.proofs.lemmas.List.Sums.{take_while-cons}
-use Rattle.std.proofs.lemmas.Bool.Decides.{nat_tests}
-use Rattle.pfc_base.specs.Pieces.{onto, pieces_of-some, same-test, other-test}
+use Rattle.pfc_base.specs.Pieces.{same-test, other-test}
 use Rattle.pfc_config.specs.Words.{is_blank, pieces_by, is_filled, is_comment, words_of}
 
 abbrev pub is_inked : ℕ → Bool

@@ -1,5 +1,5 @@
 -- What a whole configuration comes to: the first bad line, or what its directives are set to.
-use Rattle.std.specs.Prelude.{◌≡◌, ℕ, ◌+◌, ◌*◌, nat_lt, Bool, true, false, ◌&&◌, List, [], ◌∷◌, ◌++◌, length, slice_index, Option, Some, None, option_map, unwrap_or, Result, Ok, Err, if◌then◌else◌}
+use Rattle.std.specs.Prelude.{◌≡◌, ℕ, ◌+◌, ◌*◌, ◌%◌, ◌^◌, ◌<◌, ◌≤◌, nat_lt, Bool, false, ◌&&◌, List, [], ◌∷◌, ◌++◌, length, slice_index, Option, Some, None, option_map, unwrap_or, Result, Ok, Err, if◌then◌else◌}
 use Rattle.std.specs.Option.{option_map_or}
 use Rattle.std.specs.List.{find, list_any, position_from}
 use Rattle.pfc_base.specs.Pieces.{pieces_of}
@@ -67,3 +67,18 @@ configured_lines capacity lines =
 
 unfoldable pub configured : List ℕ → ℕ → Result Config ConfigRefusal
 configured bytes capacity = if nat_lt 1048576 (length bytes) then Err (Bad 0 TooLong) else configured_lines capacity (pieces_of 10 bytes)
+
+-- what a configuration for so many bytes of disk keeps within
+pub record IsWithinRanges (capacity : ℕ) (config : Config) : Type 0 where
+  pub block : (4096 ≤ config.blocksize) × (config.blocksize ≤ 16777216)
+  pub pages : config.blocksize % 4096 ≡ 0
+  pub room : 4 * config.blocksize ≤ config.ram
+  pub ram : config.ram ≤ 64 * 1024 ^ 3
+  pub prefetch : config.prefetch ≤ 128
+  pub queue : (1 ≤ config.queue) × (config.queue ≤ 1024)
+  pub writers : (1 ≤ config.writers) × (config.writers ≤ 16)
+  pub flush : (1 ≤ config.flush) × (config.flush ≤ 100000)
+  pub low : config.low ≤ config.high
+  pub high : config.high ≤ capacity
+  -- the defaults meet in a capacity of a few bytes alone
+  pub apart : 20 ≤ capacity → config.low < config.high

@@ -1,5 +1,5 @@
 -- The table of the directives.
-use Rattle.std.specs.Prelude.{◌≡◌, Result, Ok, Err, ℕ, ◌+◌, ◌*◌, ◌/◌, ◌%◌, ◌^◌, ◌==◌, nat_eq, nat_lt, nat_le, Bool, true, false, ◌&&◌, not, List, [], ◌∷◌, length, slice_index, drop, codes, Option, Some, None, option_map, is_none, if◌then◌else◌}
+use Rattle.std.specs.Prelude.{◌≡◌, Result, Ok, Err, ℕ, ◌*◌, ◌/◌, ◌%◌, ◌^◌, ◌==◌, nat_eq, nat_lt, nat_le, Bool, true, false, ◌&&◌, not, List, [], ◌∷◌, length, slice_index, drop, codes, Option, Some, None, option_map, is_none, if◌then◌else◌}
 use Rattle.std.specs.List.{starts_with, filter_map, list_any}
 use Rattle.std.specs.Cmp.Lexicographic.{pointwise}
 use Rattle.pfc_base.specs.Number.{decimal_of, digits_from, size_of_text}

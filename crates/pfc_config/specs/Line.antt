@@ -7,7 +7,7 @@ use Rattle.pfc_config.specs.Directive.{is_word, directive_of, row_of, has_defaul
 use Rattle.pfc_config.specs.declared.directive.Directive.{Directive}
 use Rattle.pfc_config.specs.declared.setting.Setting.{Setting}
 use Rattle.pfc_config.specs.declared.refusal.Kind.{Kind}
-use Rattle.pfc_config.specs.declared.refusal.Kind.TheVariants.{TooLong, Unsupported, Unknown, Twice}
+use Rattle.pfc_config.specs.declared.refusal.Kind.TheVariants.{TooLong, Unsupported, Unknown}
 
 -- the first word, and the words behind it
 abbrev pub first_of : List (List ℕ) → List ℕ

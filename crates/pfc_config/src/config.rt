@@ -1,7 +1,7 @@
 // A whole configuration.
-ghost use Rattle.std.specs.Prelude.{◌≡◌, ℕ, List, [], ◌∷◌, ◌++◌, ◌+◌, ◌≤◌, ◌*◌, ◌/◌, length, Some, None, MatchResult};
+ghost use Rattle.std.specs.Prelude.{◌≡◌, ℕ, List, [], ◌∷◌, ◌++◌, ◌+◌, ◌≤◌, ◌*◌, ◌/◌, length, Some, None, MatchResult, IfOk};
 ghost use Rattle.pfc_base.specs.Pieces.{pieces_of};
-ghost use Rattle.pfc_config.specs.Config.{configured, kind_of, first_bad, config_by, or_default, with_room};
+ghost use Rattle.pfc_config.specs.Config.{configured, kind_of, first_bad, config_by, or_default, with_room, IsWithinRanges};
 ghost use Rattle.pfc_config.specs.Settings.{set_by, ram_line, AreSetBy};
 
 use crate::line::read_line;
@@ -60,7 +60,8 @@ fn read_lines(bytes: &[u8], capacity: u64) -> Result<Settings, ConfigRefusal>
 /// passed over. The first bad line is refused with the first kind that fits it; memory without room for four
 /// blocks is refused last, on its own line. Takes no memory, in one pass over the lines.
 pub fn read_config(bytes: &[u8], capacity: u64) -> Result<Config, ConfigRefusal>
-    ensures { result ≡ configured bytes.now capacity }
+    ensures value { result ≡ configured bytes.now capacity }
+    ensures ranges { IfOk result (IsWithinRanges capacity) }
 {
     if bytes.len() > MOST_BYTES {
         return Err(ConfigRefusal::Bad {

@@ -5,6 +5,9 @@ ghost use Rattle.std.specs.Option.{option_copied};
 ghost use Rattle.std.specs.Prelude.{not};
 ghost use Rattle.pfc_config.specs.Words as word;
 
+/// A word that begins so ends the line.
+const COMMENT: u8 = b'#';
+
 fn is_blank(byte: u8) -> bool
     ensures { result ≡ word.is_blank byte }
 {
@@ -59,7 +62,7 @@ pub(crate) fn next_word(bytes: &[u8]) -> Option<(&[u8], &[u8])>
 {
     let text = trimmed(bytes);
     let len = word_len(text);
-    if len == 0 || text[0] == b'#' {
+    if len == 0 || text[0] == COMMENT {
         return None;
     }
     Some(text.split_at(len))

@@ -1,5 +1,4 @@
-use Rattle.std.proofs.Common.{◌≡◌, ◌≤◌, ◌+◌, ℕ, List, [], ◌++◌, length}
-use Rattle.pfc_base.specs.Pieces.{pieces_of}
+use Rattle.std.proofs.Common.{length}
 use Rattle.pfc_config.proofs.Reading.{IsReading}
 use Rattle.pfc_config.proofs.config.read_lines.Given as goal
 

@@ -1,5 +1,4 @@
-use Rattle.std.proofs.Common.{rules, arith, sym, ◌∙◌, ◌≡◌, false}
-use Rattle.std.proofs.lemmas.Grind.{common_steps}
+use Rattle.std.proofs.Common.{rules, sym, ◌∙◌, ◌≡◌, false}
 use Rattle.pfc_config.specs.Line.{kind_alone, is_ours}
 use Rattle.pfc_config.proofs.Names.{not_ours}
 use Rattle.pfc_config.proofs.line.read_line.Goals as goal

@@ -1,4 +1,4 @@
-use Rattle.std.proofs.Common.{◌≡◌, Option, Some, None, Ok, subst, sym, ◌∙◌, true, false, List, ℕ}
+use Rattle.std.proofs.Common.{◌≡◌, Option, Some, None, Ok, subst, sym, ◌∙◌, true, false}
 use Rattle.std.specs.Option.{is_some}
 use Rattle.pfc_config.specs.declared.setting.Setting.{Setting}
 use Rattle.pfc_config.specs.Line.{ReadsLine}
