@@ -1,5 +1,5 @@
 // Why a configuration is refused.
-ghost use Rattle.std.specs.Prelude.{◌≡◌};
+ghost use Rattle.std.specs.Prelude.{◌≡◌, Some};
 ghost use Rattle.pfc_config.specs.Kind.{kind_text};
 
 use std::fmt::{self, Display, Formatter};
@@ -50,6 +50,8 @@ impl Kind {
 }
 
 impl Display for Kind {
+    ghost output = { λ kind. Some (kind_text kind) };
+
     fn fmt<W: fmt::Write>(&self, f: &mut Formatter<W>) -> fmt::Result {
         f.write_str(self.text())
     }
