@@ -1,11 +1,17 @@
 ghost use Rattle.std.specs.Prelude.{◌≡◌, ◌<◌, IfSome, option_and_then};
 ghost use Rattle.pfc_base.specs.Number.{decimal_of, digits_from, fitting, unit_of, scaled_by, size_of_text};
+<<<<<<< HEAD
+
+/// The greatest size, in bytes.
+const SIZE_MAX: u64 = (1 << 63) - 1;
+=======
+>>>>>>> h-config
 
 /// The greatest size, in bytes.
 const SIZE_MAX: u64 = (1 << 63) - 1;
 
-/// The number of these digits, if it is below 2^64.
-fn digits(bytes: &[u8]) -> Option<u64>
+/// The number of these digits, if it is below 2^64. Leading zeros are taken, and no digits are 0.
+pub fn digits(bytes: &[u8]) -> Option<u64>
     ensures { result ≡ option_and_then fitting (digits_from 0 bytes.now) }
 {
     let mut n = 0u64;
