@@ -1,6 +1,6 @@
 -- What stands in a log that starts uncached.
-use Rattle.std.proofs.Common.{◌≡◌, ◌⊎◌, ℕ, ◌+◌, ◌<◌, ◌≤◌, List, [], ◌∷◌, ◌++◌, sym, refl, ap, ◌∙◌, subst, inl, inr, arith, Bool, true, false, Option, Some}
-use Rattle.std.specs.Prelude.{◌==◌, ◌&&◌, ⊤, IsTrue, IsFalse, if◌then◌else◌}
+use Rattle.std.proofs.Common.{◌≡◌, ℕ, List, [], ◌∷◌, ◌++◌, sym, refl, ap, ◌∙◌, subst, inl, inr, arith, Bool, true, false}
+use Rattle.std.specs.Prelude.{◌==◌, IsTrue, if◌then◌else◌}
 use Rattle.pfc_log.specs.declared.entry.Entry.{Entry}
 use Rattle.pfc_log.specs.declared.entry.Entry.TheVariants as e
 use Rattle.pfc_log.specs.declared.entry.Spot.{Spot}
@@ -9,11 +9,10 @@ use Rattle.pfc_log.specs.declared.entry.Way.{Way}
 use Rattle.pfc_log.specs.declared.entry.Way.TheVariants as way
 use Rattle.pfc_log.specs.declared.entry.Uncached.{Uncached}
 use Rattle.pfc_log.specs.declared.entry.Uncached.TheVariants as reason
-use Rattle.pfc_log.specs.declared.start.Start.{Start}
 use Rattle.pfc_log.specs.declared.start.Start.TheVariants as start
-use Rattle.pfc_log.specs.Views.{Place, Away, Flying, Here, place, moves, is_here, times, is_failed, is_disk, is_device_way, is_disk_hit, is_frozen, is_written_off, kept, stored, durable}
+use Rattle.pfc_log.specs.Views.{Place, Away, Flying, Here, place, moves, is_here, times, is_failed, is_disk_hit, is_frozen, is_written_off, kept, stored}
 use Rattle.pfc_log.specs.Positions.{StandsAt, IsOfUncached}
-use Rattle.pfc_log.specs.Lawful.{Lawful, Row, IsCached, IsUncached, GoesDirect, IsHit}
+use Rattle.pfc_log.specs.Lawful.{Lawful, Row, IsUncached, GoesDirect, IsHit}
 use Rattle.pfc_log.proofs.More.{place_more, times_none, kept_more}
 use Rattle.pfc_log.proofs.Places.{stands_split, along}
 

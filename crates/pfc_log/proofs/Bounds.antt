@@ -1,12 +1,12 @@
 -- Bounds that lawful logs keep: how often a client goes to the origin, and how often a store freezes.
-use Rattle.std.proofs.Common.{◌≡◌, ◌≢◌, ◌⊎◌, ℕ, ◌+◌, ◌<◌, ◌≤◌, List, [], ◌∷◌, ◌++◌, length, take, sym, refl, ap, ◌∙◌, subst, inl, inr, arith, Bool, true, false, Option, Some}
-use Rattle.std.specs.Prelude.{◌==◌, ◌&&◌, ⊤, if◌then◌else◌}
+use Rattle.std.proofs.Common.{◌≡◌, ℕ, ◌+◌, ◌<◌, ◌≤◌, List, take, refl, ap, ◌∙◌, subst, arith, Bool, true, false}
+use Rattle.std.specs.Prelude.{◌==◌, ◌&&◌, if◌then◌else◌}
 use Rattle.pfc_log.specs.declared.entry.Entry.{Entry}
 use Rattle.pfc_log.specs.declared.entry.Entry.TheVariants as e
 use Rattle.pfc_log.specs.declared.entry.Way.{Way}
 use Rattle.pfc_log.specs.declared.entry.Way.TheVariants as way
 use Rattle.pfc_log.specs.declared.start.Start.{Start}
-use Rattle.pfc_log.specs.Views.{times, is_lost, is_lost_way, is_asked, is_device, is_device_way, is_disk_hit, is_frozen, is_written_off}
+use Rattle.pfc_log.specs.Views.{times, is_lost, is_lost_way, is_asked, is_device, is_device_way, is_disk_hit, is_written_off}
 use Rattle.pfc_log.specs.Positions.{StandsAt, IsOfOff}
 use Rattle.pfc_log.specs.Lawful.{Lawful, Row, GoesDirect}
 use Rattle.pfc_log.proofs.More.{times_more}

@@ -1,12 +1,11 @@
 -- The counts of a log with one more entry.
-use Rattle.std.proofs.Common.{◌≡◌, ℕ, ◌+◌, List, [], ◌∷◌, ◌++◌, Bool, true, false, sym, refl, ap, ◌∙◌, arith}
-use Rattle.std.specs.Prelude.{◌-◌, ◌^◌, min, fold, sum_by, if◌then◌else◌}
+use Rattle.std.proofs.Common.{◌≡◌, ℕ, ◌+◌, List, [], ◌∷◌, ◌++◌, Bool, refl, ap, ◌∙◌, arith}
+use Rattle.std.specs.Prelude.{sum_by, if◌then◌else◌}
 use Rattle.std.proofs.lemmas.List.Sums.{sum_by_push}
 use Rattle.pfc_log.specs.declared.entry.Entry.{Entry}
 use Rattle.pfc_log.specs.declared.entry.Entry.TheVariants as e
-use Rattle.pfc_log.specs.declared.counts.Counts.{Counts}
 use Rattle.pfc_log.specs.Views.{times}
-use Rattle.pfc_log.specs.Owners.{owners, landed_of, is_landed_of, count_after}
+use Rattle.pfc_log.specs.Owners.{owners, landed_of, is_landed_of}
 use Rattle.pfc_log.specs.Counts.{saturated, counts_of, one_more, is_open, is_served, hit_in, missed_in, bypassed_in, is_join, is_landing, is_failing, is_wrote, is_dropped, is_synced, is_claimed}
 use Rattle.pfc_log.proofs.More.{times_more, count_after_more}
 

@@ -1,15 +1,15 @@
 -- Where a block is, read at the places of its entries.
-use Rattle.std.proofs.Common.{◌≡◌, ◌≢◌, ◌⊎◌, ℕ, zero, suc, ◌+◌, ◌<◌, ◌≤◌, List, [], ◌∷◌, ◌++◌, length, take, sym, refl, ap, ◌∙◌, subst, inl, inr, arith, Bool, true, false, Option, Some, None}
-use Rattle.std.specs.Prelude.{slice_get, ◌==◌, if◌then◌else◌}
+use Rattle.std.proofs.Common.{◌≡◌, ◌⊎◌, ℕ, List, [], length, sym, refl, ap, ◌∙◌, inl, inr, Bool, true, false, Some}
+use Rattle.std.specs.Prelude.{◌==◌, if◌then◌else◌}
 use Rattle.std.proofs.lemmas.Option.{slice_get_within}
 use Rattle.pfc_log.specs.declared.entry.Entry.{Entry}
 use Rattle.pfc_log.specs.declared.entry.Entry.TheVariants as e
 use Rattle.pfc_log.specs.declared.start.Start.{Start}
-use Rattle.pfc_log.specs.Views.{Place, Away, Flying, Here, place, moves, landing, failing, ending, is_ended, IsFlying}
-use Rattle.pfc_log.specs.Positions.{StandsAt, NoneAfter, SomeAfter, IsOutSince, BeganBefore, IsInSince, IsDoneSince, is_left, is_done}
+use Rattle.pfc_log.specs.Views.{Place, Away, Flying, Here, place, moves, landing, failing, ending, is_ended}
+use Rattle.pfc_log.specs.Positions.{StandsAt, IsOutSince}
 use Rattle.pfc_log.specs.Lawful.{Lawful, Row}
 use Rattle.pfc_log.proofs.More.{place_more}
-use Rattle.pfc_log.proofs.Places.{from_end, by_bool, cases_eq, eq_self, eq_sym, stands_old, stands_new, stands_split, along, none_push, none_last, none_pop, none_now, some_push, none_or_some}
+use Rattle.pfc_log.proofs.Places.{from_end, by_bool, cases_eq, eq_self, eq_sym, stands_old, stands_new, stands_split, along, none_push, none_last, none_pop, none_now}
 
 landing_flying : (u : ℕ) (p : Place) (t n : ℕ) → landing u p ≡ Flying t n → (p ≡ Flying t n) × ((u == t) ≡ false)
 landing_flying u Away t n h = absurd cc

@@ -1,10 +1,10 @@
 -- One more entry.
-use Rattle.std.proofs.Common.{◌≡◌, ◌⊎◌, ℕ, zero, suc, ◌+◌, List, [], ◌∷◌, ◌++◌, take, sym, refl, ap, ◌∙◌, subst, inl, inr, arith, Bool, true, false, Option, Some, None}
+use Rattle.std.proofs.Common.{◌≡◌, ◌⊎◌, ℕ, zero, suc, ◌+◌, List, [], ◌∷◌, ◌++◌, take, sym, refl, ap, ◌∙◌, subst, inl, inr, arith, Bool, true, false, Some, None}
 use Rattle.std.specs.Prelude.{slice_get, fold, if◌then◌else◌}
 use Rattle.std.proofs.lemmas.List.Sums.{fold_push}
 use Rattle.pfc_log.specs.declared.entry.Entry.{Entry}
 use Rattle.pfc_log.specs.declared.start.Start.{Start}
-use Rattle.pfc_log.specs.Views.{Place, Away, place, moves, times, kept, keeps, last_claim, claiming, started, Kept}
+use Rattle.pfc_log.specs.Views.{Away, place, moves, times, kept, keeps, last_claim, claiming, started}
 use Rattle.pfc_log.specs.Owners.{owners, owning, count_after}
 use Rattle.pfc_log.specs.Lawful.{Lawful, Row}
 

@@ -1,12 +1,12 @@
 -- Which blocks are in memory, read at the places of entries.
-use Rattle.std.proofs.Common.{◌≡◌, ◌≢◌, ◌⊎◌, ℕ, ◌<◌, ◌≤◌, List, [], ◌∷◌, ◌++◌, length, sym, refl, ap, ◌∙◌, subst, inl, inr, arith, Bool, true, false, Option, Some}
+use Rattle.std.proofs.Common.{◌≡◌, ◌⊎◌, ℕ, ◌<◌, ◌≤◌, List, [], ◌∷◌, ◌++◌, length, sym, refl, ap, ◌∙◌, subst, inl, inr, arith, Bool, true, false, Some}
 use Rattle.std.specs.Prelude.{slice_get, ◌==◌, ◌||◌, if◌then◌else◌}
 use Rattle.std.proofs.lemmas.Option.{slice_get_within}
 use Rattle.pfc_log.specs.declared.entry.Entry.{Entry}
 use Rattle.pfc_log.specs.declared.entry.Entry.TheVariants as e
 use Rattle.pfc_log.specs.declared.start.Start.{Start}
 use Rattle.pfc_log.specs.Views.{Place, Away, Flying, Here, place, moves, landing, failing, ending, IsFlying}
-use Rattle.pfc_log.specs.Positions.{StandsAt, NoneAfter, SomeAfter, BeganBefore, IsInSince, IsDoneSince, is_left, is_done}
+use Rattle.pfc_log.specs.Positions.{StandsAt, NoneAfter, BeganBefore, IsInSince, IsDoneSince, is_left, is_done}
 use Rattle.pfc_log.specs.Lawful.{Lawful, Row}
 use Rattle.pfc_log.proofs.More.{place_more}
 use Rattle.pfc_log.proofs.Places.{from_end, by_bool, cases_eq, eq_self, stands_old, stands_new, stands_split, along, none_push, none_last, none_pop, none_now, some_push}

@@ -1,6 +1,6 @@
 -- The runs of a set are the ones that `runs_of` gives.
-use Rattle.std.proofs.Common.{◌≡◌, ◌≢◌, ◌⊎◌, ℕ, zero, suc, ◌+◌, ◌-◌, ◌<◌, ◌≤◌, List, [], ◌∷◌, length, sym, refl, ap, ◌∙◌, subst, inl, inr, arith, Bool, true, false}
-use Rattle.std.specs.Prelude.{All, AllPairs, Any, slice_index_or, ◌==◌, if◌then◌else◌}
+use Rattle.std.proofs.Common.{◌≡◌, ◌⊎◌, ℕ, zero, suc, ◌+◌, ◌-◌, ◌<◌, ◌≤◌, List, [], ◌∷◌, length, sym, refl, ap, ◌∙◌, subst, inl, inr, arith, Bool, true, false}
+use Rattle.std.specs.Prelude.{All, AllPairs, Any, slice_index_or, if◌then◌else◌}
 use Rattle.std.proofs.lemmas.Bool.{cases_lt}
 use Rattle.pfc_base.specs.BlockSet.{AreRuns, is_member}
 use Rattle.pfc_log.specs.Runs.{runs_of, runs_from, onto_run}

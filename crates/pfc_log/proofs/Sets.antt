@@ -1,6 +1,6 @@
 -- Which blocks are written or durable, read at the places of entries. This holds for every list of entries.
-use Rattle.std.proofs.Common.{◌≡◌, ◌≢◌, ◌⊎◌, ℕ, ◌<◌, List, [], ◌∷◌, ◌++◌, length, sym, refl, ap, ◌∙◌, subst, inl, inr, arith, Bool, true, false, Option, Some}
-use Rattle.std.specs.Prelude.{slice_get, ◌==◌, ◌||◌, ◌↔◌, if◌then◌else◌}
+use Rattle.std.proofs.Common.{◌≡◌, ◌⊎◌, ℕ, List, [], length, sym, refl, ap, ◌∙◌, inl, inr, arith, Bool, true, false, Some}
+use Rattle.std.specs.Prelude.{◌==◌, ◌||◌, ◌↔◌, if◌then◌else◌}
 use Rattle.std.proofs.lemmas.Option.{slice_get_within}
 use Rattle.pfc_log.specs.declared.entry.Entry.{Entry}
 use Rattle.pfc_log.specs.declared.entry.Entry.TheVariants as e
@@ -8,7 +8,7 @@ use Rattle.pfc_log.specs.declared.start.Start.{Start}
 use Rattle.pfc_log.specs.Views.{Kept, kept, keeps, started, durable}
 use Rattle.pfc_log.specs.Positions.{StandsAt, IsWritten, IsSynced}
 use Rattle.pfc_log.proofs.More.{kept_more}
-use Rattle.pfc_log.proofs.Places.{from_end, by_bool, cases_eq, eq_self, stands_old, stands_new, stands_split}
+use Rattle.pfc_log.proofs.Places.{from_end, cases_eq, eq_self, stands_old, stands_new, stands_split}
 
 or_true : (q : Bool) → (q || true) ≡ true
 or_true true = refl

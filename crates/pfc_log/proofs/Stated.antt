@@ -1,5 +1,5 @@
 -- The laws of lawful logs, as their functions state them.
-use Rattle.std.proofs.Common.{◌≡◌, ℕ, ◌<◌, ◌≤◌, List, [], ◌∷◌, ◌++◌, take, Bool, true, Option, Some, arith}
+use Rattle.std.proofs.Common.{◌≡◌, ℕ, ◌<◌, List, Bool, true, Some}
 use Rattle.std.specs.Prelude.{◌↔◌}
 use Rattle.pfc_log.specs.declared.entry.Entry.{Entry}
 use Rattle.pfc_log.specs.declared.entry.Entry.TheVariants.{Begin}
@@ -7,7 +7,7 @@ use Rattle.pfc_log.specs.declared.start.Start.{Start}
 use Rattle.pfc_log.specs.Views.{place, Flying, Here, is_ended}
 use Rattle.pfc_log.specs.Owners.{owner}
 use Rattle.pfc_log.specs.Positions.{StandsAt, IsOutSince, IsInSince, IsDoneSince, IsBegun, EndsBetween}
-use Rattle.pfc_log.specs.Lawful.{Lawful, Row}
+use Rattle.pfc_log.specs.Lawful.{Lawful}
 use Rattle.pfc_log.proofs.More.{lawful_more}
 use Rattle.pfc_log.proofs.Places.{lawful_front}
 use Rattle.pfc_log.proofs.Flights.{out_since, still_out}

@@ -1,18 +1,17 @@
 -- Flights and their numbers: a ticket begins once and ends at most once, and its owner stays.
-use Rattle.std.proofs.Common.{◌≡◌, ◌≢◌, ◌⊎◌, ℕ, zero, suc, ◌+◌, ◌<◌, ◌≤◌, List, [], ◌∷◌, ◌++◌, length, take, sym, refl, ap, ◌∙◌, subst, inl, inr, arith, Bool, true, false, Option, Some, None, length-append}
-use Rattle.std.specs.Prelude.{slice_get, ◌==◌, ◌||◌, if◌then◌else◌}
-use Rattle.std.proofs.lemmas.Option.{slice_get_within}
+use Rattle.std.proofs.Common.{◌≡◌, ℕ, zero, suc, ◌+◌, ◌<◌, ◌≤◌, List, [], ◌∷◌, ◌++◌, length, take, sym, refl, ap, ◌∙◌, subst, inl, inr, arith, Bool, true, false, Some, length-append}
+use Rattle.std.specs.Prelude.{slice_get, if◌then◌else◌}
 use Rattle.std.proofs.lemmas.Bool.{cases_order}
 use Rattle.std.proofs.lemmas.List.Sums.{sum_by-cons, sum_by-take-le}
 use Rattle.pfc_log.specs.declared.entry.Entry.{Entry}
 use Rattle.pfc_log.specs.declared.entry.Entry.TheVariants as e
 use Rattle.pfc_log.specs.declared.start.Start.{Start}
-use Rattle.pfc_log.specs.Views.{Place, Away, Flying, Here, place, times, begins, is_begin, is_ended, IsFlying}
+use Rattle.pfc_log.specs.Views.{Away, Flying, place, times, begins, is_begin, is_ended, IsFlying}
 use Rattle.pfc_log.specs.Owners.{owners, owner, owning}
-use Rattle.pfc_log.specs.Positions.{StandsAt, NoneAfter, SomeAfter, IsOutSince, BeganBefore}
+use Rattle.pfc_log.specs.Positions.{StandsAt, NoneAfter}
 use Rattle.pfc_log.specs.Lawful.{Lawful, Row, MayBegin}
-use Rattle.pfc_log.proofs.More.{times_more, times_one, times_none, owners_more}
-use Rattle.pfc_log.proofs.Places.{from_end, by_bool, cases_eq, stands_old, stands_new, stands_split, stands_take, take_stands, take_take, along, lawful_front, none_or_some}
+use Rattle.pfc_log.proofs.More.{times_more, times_one, owners_more}
+use Rattle.pfc_log.proofs.Places.{from_end, stands_split, stands_take, take_stands, take_take, along, lawful_front, none_or_some}
 use Rattle.pfc_log.proofs.Flights.{out_since, still_out, same_number}
 
 pass_one : (test : Entry → Bool) (es : List Entry) (p : ℕ) (x : Entry) → StandsAt es p x → test x ≡ true → times test (take (suc p) es) ≡ times test (take p es) + 1

@@ -1,5 +1,5 @@
 -- Which logs are lawful: each entry may stand after the entries before it.
-use Rattle.std.specs.Prelude.{◌≡◌, ℕ, ◌+◌, ◌<◌, ◌≤◌, ◌⊎◌, ⊤, true, IsTrue, IsFalse, List, take, length, slice_get, Option, Some, IfSome}
+use Rattle.std.specs.Prelude.{◌≡◌, ℕ, ◌+◌, ◌<◌, ◌≤◌, ◌⊎◌, ⊤, true, IsTrue, IsFalse, List, take, length, slice_get, Some, IfSome}
 use Rattle.pfc_log.specs.declared.entry.Entry.{Entry}
 use Rattle.pfc_log.specs.declared.entry.Entry.TheVariants.{Opened, Closed, Begin, Join, Hit, Direct, Landed, Failed, Dropped, Wrote, Left, Synced, Claimed, Frozen, WrittenOff, Served}
 use Rattle.pfc_log.specs.declared.entry.Spot.{Spot}
@@ -12,7 +12,7 @@ use Rattle.pfc_log.specs.declared.entry.Uncached.{Uncached}
 use Rattle.pfc_log.specs.declared.entry.Uncached.TheVariants.{Strayed}
 use Rattle.pfc_log.specs.declared.start.Start.{Start}
 use Rattle.pfc_log.specs.declared.start.Start.TheVariants as start
-use Rattle.pfc_log.specs.Views.{Place, Away, Flying, Here, place, is_here, IsFlying, times, is_asked, is_lost, is_failed, is_device, is_disk_hit, is_frozen, is_written_off, opened, closed, begins, durable, stored, count_below, bound, last_claim}
+use Rattle.pfc_log.specs.Views.{Away, Flying, Here, place, is_here, IsFlying, times, is_asked, is_lost, is_failed, is_device, is_disk_hit, is_frozen, is_written_off, opened, closed, begins, durable, stored, count_below, bound, last_claim}
 
 -- the log starts with a store
 abbrev pub IsCached : Start → Type 0

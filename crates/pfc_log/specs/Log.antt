@@ -1,7 +1,5 @@
 -- What contracts see of a log, and what it keeps beside its entries.
-use Rattle.std.specs.Prelude.{◌≡◌, ℕ, ◌+◌, ◌≤◌, List, vec_len, vec_capacity}
-use Rattle.pfc_log.specs.declared.entry.Entry.{Entry}
-use Rattle.pfc_log.specs.declared.start.Start.{Start}
+use Rattle.std.specs.Prelude.{◌≡◌, ◌+◌, ◌≤◌, vec_len, vec_capacity}
 use Rattle.pfc_log.specs.Owners.{owners}
 use Rattle.pfc_log.specs.Counts.{counts_of}
 use Rattle.pfc_log.specs.declared.log.FileLog.TheInside.{Inside}

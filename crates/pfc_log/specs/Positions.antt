@@ -1,9 +1,8 @@
 -- Places in a log. The place of an entry is the number of entries before it.
 use Rattle.std.specs.Prelude.{◌≡◌, ℕ, ◌<◌, ◌==◌, ⊤, Bool, true, false, List, slice_get, Some}
 use Rattle.pfc_log.specs.declared.entry.Entry.{Entry}
-use Rattle.pfc_log.specs.declared.entry.Entry.TheVariants.{Opened, Closed, Begin, Join, Hit, Direct, Landed, Failed, Dropped, Wrote, Left, Synced, Claimed, Frozen, WrittenOff, Served}
+use Rattle.pfc_log.specs.declared.entry.Entry.TheVariants.{Opened, Closed, Begin, Join, Hit, Direct, Landed, Dropped, Wrote, Left, Synced, Claimed, Frozen, WrittenOff, Served}
 use Rattle.pfc_log.specs.declared.entry.Uncached.{Uncached}
-use Rattle.pfc_log.specs.declared.entry.Way.{Way}
 use Rattle.pfc_log.specs.declared.entry.Way.TheVariants as way
 use Rattle.pfc_log.specs.Views.{is_ended}
 

@@ -1,5 +1,5 @@
 -- What the entries so far say of a block, a ticket, a client. Each view reads the log from its start, entry by entry.
-use Rattle.std.specs.Prelude.{◌≡◌, ℕ, zero, suc, ◌+◌, ◌==◌, ◌&&◌, ◌||◌, Bool, true, false, if◌then◌else◌, List, [], ◌∷◌, take, length, fold, count_by, Option, Some, None}
+use Rattle.std.specs.Prelude.{◌≡◌, ℕ, zero, suc, ◌+◌, ◌==◌, ◌&&◌, Bool, true, false, if◌then◌else◌, List, take, length, fold, count_by, Option, Some, None}
 use Rattle.pfc_base.specs.Block.{count_of, block_len_of}
 use Rattle.pfc_base.specs.BlockSet.{is_member}
 use Rattle.pfc_log.specs.declared.entry.Entry.{Entry}
