@@ -16,11 +16,7 @@ pub use block::{Part, Piece, block_count, block_len, slice};
 pub use block_set::BlockSet;
 pub use cinfo::cinfo_says_one_thing;
 pub use memory::Memory;
-<<<<<<< HEAD
-pub use number::{decimal, size};
-=======
 pub use number::{decimal, digits, size};
->>>>>>> h-config
 pub use path::{Path, PathRefusal};
 pub use pieces::next_piece;
 pub use text::{push_number, push_word};

@@ -1,11 +1,5 @@
 ghost use Rattle.std.specs.Prelude.{◌≡◌, ◌<◌, IfSome, option_and_then};
 ghost use Rattle.pfc_base.specs.Number.{decimal_of, digits_from, fitting, unit_of, scaled_by, size_of_text};
-<<<<<<< HEAD
-
-/// The greatest size, in bytes.
-const SIZE_MAX: u64 = (1 << 63) - 1;
-=======
->>>>>>> h-config
 
 /// The greatest size, in bytes.
 const SIZE_MAX: u64 = (1 << 63) - 1;
