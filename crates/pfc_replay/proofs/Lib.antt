@@ -1,8 +1,9 @@
 pub mod Capacities
+pub mod Configs
 pub mod Fronts
 pub mod Lines
+pub mod Outcomes
 pub mod Pieces
 pub mod Replies
-pub mod Reports
 pub mod Schedules
 pub mod Sessions

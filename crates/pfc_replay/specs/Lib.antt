@@ -1,4 +1,5 @@
-pub mod Report
+pub mod Outcome
+pub mod Refusal
 pub mod Run
 pub mod Schedule
 pub mod Serve

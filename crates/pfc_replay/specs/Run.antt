@@ -1,14 +1,18 @@
--- What became of the work of a run, before its text is written.
-use Rattle.std.specs.Prelude.{ℕ, Bool, List, Option}
-use Rattle.pfc_world.specs.Files.{Files}
+-- What running a schedule comes to.
+use Rattle.std.specs.Prelude.{◌≡◌, ℕ, Bool, List, IsTrue, IsSomeAnd, Ok, Err}
+use Rattle.pfc_world.specs.Files.{Files, file_at}
 use Rattle.pfc_world.specs.Counts.{Rose}
 use Rattle.pfc_world.specs.Texts.{Texts}
-use Rattle.pfc_replay.specs.Report.{AreReplies, IsNoSchedule}
-use Rattle.pfc_replay.specs.declared.replay.Done.{Done}
-use Rattle.pfc_replay.specs.declared.replay.Done.TheVariants.{Replies, NoSchedule, Fault, Memory}
+use Rattle.pfc_client.specs.Permitted.{ArePermitted}
+use Rattle.pfc_replay.specs.Schedule.{schedule_of}
+use Rattle.pfc_replay.specs.declared.outcome.Outcome.{Outcome}
+use Rattle.pfc_replay.specs.declared.outcome.Outcome.TheVariants.{Replies, Usage, Config, Schedule, Fault}
 
-abbrev pub IsRun : Bool → Files → Bool → Texts → Option (List ℕ) → ℕ → ℕ → ℕ → ℕ → Done → Type 0
-IsRun told files host texts name before after old new (Replies replies) = AreReplies told files host texts name before after replies.items
-IsRun told files host texts name before after old new NoSchedule = IsNoSchedule host texts name
-IsRun told files host texts name before after old new Fault = Rose old new
-IsRun told files host texts name before after old new Memory = Unit {0}
+-- The cause of an outcome of the schedule of this name.
+abbrev pub Runs : Bool → Files → Bool → Texts → List ℕ → ℕ → ℕ → ℕ → ℕ → Outcome → Type 0
+Runs told files tells texts name host host' link link' (Replies replies) =
+    (lines : List (List ℕ)) × (IsTrue tells → IsSomeAnd (file_at texts name) (λ text. schedule_of text ≡ Ok lines)) × ArePermitted told files lines replies link link'
+Runs told files tells texts name host host' link link' (Schedule line) = IsTrue tells → IsSomeAnd (file_at texts name) (λ text. schedule_of text ≡ Err line)
+Runs told files tells texts name host host' link link' (Fault part) = Rose host host'
+Runs told files tells texts name host host' link link' Usage = ⊥
+Runs told files tells texts name host host' link link' (Config line kind) = ⊥

@@ -1,5 +1,5 @@
 -- What a schedule asks. Each line of it is `ask 1 <rest>`, and the rest is a request line, whatever it holds.
-use Rattle.std.specs.Prelude.{◌≡◌, ℕ, ◌==◌, Bool, List, [], ◌∷◌, length, drop, codes, nat_eq, nat_lt, Option, Some, None, option_and_then, option_map, if◌then◌else◌, refl}
+use Rattle.std.specs.Prelude.{◌≡◌, ℕ, ◌==◌, Bool, List, [], ◌∷◌, length, drop, codes, nat_eq, nat_lt, ◌+◌, Option, Some, None, Result, Ok, Err, if◌then◌else◌, refl}
 use Rattle.std.specs.List.{starts_with}
 use Rattle.pfc_base.specs.Pieces.{pieces_of, pieces_of-some}
 
@@ -16,21 +16,24 @@ lines_in (piece ∷ next ∷ pieces) = piece ∷ lines_in (next ∷ pieces)
 abbrev pub lines_of : List ℕ → List (List ℕ)
 lines_of text = lines_in (pieces_of 10 text)
 
-abbrev pub all_asked : List (List ℕ) → Option (List (List ℕ))
-all_asked [] = Some []
-all_asked (line ∷ lines) = option_and_then (λ request. option_map (λ more. request ∷ more) (all_asked lines)) (asked_in line)
+-- the request of a line before those behind it; the first line that has another form counts
+abbrev pub asked_first : ℕ → Option (List ℕ) → Result (List (List ℕ)) ℕ → Result (List (List ℕ)) ℕ
+asked_first number None rest = Err number
+asked_first number (Some request) (Ok requests) = Ok (request ∷ requests)
+asked_first number (Some request) (Err bad) = Err bad
 
--- the request lines that the lines of a text ask, and nothing where a line has another form
-abbrev pub asked_of : List ℕ → Option (List (List ℕ))
-asked_of text = all_asked (lines_of text)
+-- what the lines from this number on ask, or the number of the first that has another form
+abbrev pub all_asked : ℕ → List (List ℕ) → Result (List (List ℕ)) ℕ
+all_asked number [] = Ok []
+all_asked number (line ∷ lines) = asked_first number (asked_in line) (all_asked (number + 1) lines)
 
 -- a schedule has at most 67108864 bytes
 abbrev pub schedule_limit : ℕ
 schedule_limit = 67108864
 
--- what a whole schedule asks, and nothing where the text is none
-unfoldable pub schedule_of : List ℕ → Option (List (List ℕ))
-schedule_of text = if nat_lt schedule_limit (length text) then None else asked_of text
+-- What a whole schedule asks, or the number of its first bad line, from 1 on; 0 for its length.
+unfoldable pub schedule_of : List ℕ → Result (List (List ℕ)) ℕ
+schedule_of text = if nat_lt schedule_limit (length text) then Err 0 else all_asked 1 (lines_of text)
 
 -- a line is followed by others
 pub lines_in_more : (piece rest : List ℕ) → lines_in (piece ∷ pieces_of 10 rest) ≡ piece ∷ lines_in (pieces_of 10 rest)

@@ -2,6 +2,12 @@
 use Rattle.std.specs.Prelude.{◌≡◌, ℕ, ◌^◌, Bool, nat_le, ◌&&◌, List, [], ◌∷◌, Option, Some, None, option_map, if◌then◌else◌}
 use Rattle.pfc_base.specs.Number.{size_of_text}
 
+-- what the words name: the sources of the configuration and of the schedule, and the capacity in bytes
+pub record Call : Type 0 where
+  pub config : List ℕ
+  pub capacity : ℕ
+  pub schedule : List ℕ
+
 -- a capacity is from 1000 to 2 ^ 62 bytes
 abbrev pub is_capacity : ℕ → Bool
 is_capacity n = nat_le 1000 n && nat_le n (2 ^ 62)
@@ -14,12 +20,12 @@ as_capacity (Some n) = if is_capacity n then Some n else None
 unfoldable pub capacity_of : List ℕ → Option ℕ
 capacity_of word = as_capacity (size_of_text word)
 
--- the name of the schedule, where the words are `<config> <origin> <cache> <capacity> <schedule>`
-abbrev pub schedule_name : List (List ℕ) → Option (List ℕ)
-schedule_name (config ∷ origin ∷ cache ∷ capacity ∷ schedule ∷ []) = option_map (λ _. schedule) (capacity_of capacity)
-schedule_name (config ∷ origin ∷ cache ∷ capacity ∷ schedule ∷ other ∷ more) = None
-schedule_name (config ∷ origin ∷ cache ∷ capacity ∷ []) = None
-schedule_name (config ∷ origin ∷ cache ∷ []) = None
-schedule_name (config ∷ origin ∷ []) = None
-schedule_name (config ∷ []) = None
-schedule_name [] = None
+-- what the words `<config> <origin> <cache> <capacity> <schedule>` name
+abbrev pub call_of : List (List ℕ) → Option Call
+call_of (config ∷ origin ∷ cache ∷ capacity ∷ schedule ∷ []) = option_map (λ n. record { config = config; capacity = n; schedule = schedule }) (capacity_of capacity)
+call_of (config ∷ origin ∷ cache ∷ capacity ∷ schedule ∷ other ∷ more) = None
+call_of (config ∷ origin ∷ cache ∷ capacity ∷ []) = None
+call_of (config ∷ origin ∷ cache ∷ []) = None
+call_of (config ∷ origin ∷ []) = None
+call_of (config ∷ []) = None
+call_of [] = None

@@ -1,6 +1,7 @@
 //! The replay: requests in an order that a schedule names, and the theorem on their replies.
 #![tactic(auto)]
 
+mod outcome;
 mod replay;
 mod schedule;
 mod serve;

@@ -1,29 +1,38 @@
-ghost use Rattle.std.specs.Prelude.{◌≡◌, ◌+◌, ◌≤◌, ◌↔◌, ◌⊎◌, ℕ, None, Some, map, string_bytes, take, IfOk, IsSomeAnd, IsTrue};
+ghost use Rattle.std.specs.Prelude.{◌≡◌, ◌+◌, ◌<◌, ◌≤◌, ◌⊎◌, ℕ, Some, Ok, Err, map, string_bytes, take, vec_len, IfOk, IfErr, IsSomeAnd, IsTrue};
 ghost use Rattle.pfc_world.specs.Counts.{Rose, RefusalCause, Stayed};
 ghost use Rattle.pfc_world.specs.Files.{file_at};
 ghost use Rattle.pfc_client.specs.Permitted.{ArePermitted};
-ghost use Rattle.pfc_replay.specs.Words.{schedule_name};
-ghost use Rattle.pfc_replay.specs.Schedule.{schedule_limit};
-ghost use Rattle.pfc_replay.specs.Report.{text_at, AreReplies, ArePlainReplies, WritesReplies, WritesFront, IsNoSchedule, IsUnhindered};
-ghost use Rattle.pfc_replay.specs.Run.{IsRun};
+ghost use Rattle.pfc_replay.specs.Outcome.{Asked, Causes, Writes, WritesFront, WritesPlain, IsUnhindered};
+ghost use Rattle.pfc_replay.specs.Run.{Runs};
 
-use crate::schedule::{SCHEDULE_LIMIT, read_schedule};
+use crate::outcome::{Outcome, Part, Replies};
+use crate::schedule::{SCHEDULE_LIMIT, ScheduleRefusal, read_schedule};
 use crate::serve::serve_all;
 use crate::words::read_words;
-use crate::write::write_client;
+use crate::write::write_outcome;
+use pfc_base::Memory;
 use pfc_client::Reply;
+use pfc_config::read_config;
 use pfc_world::{Host, Refusal, Sink, Sources, World, read_text};
 use std::alloc::Global;
 
-/// The text of a name, up to one byte more than a schedule may have.
-fn fetch_text<H: Sources>(alloc: Global, host: &mut H, name: &str) -> Result<Vec<u8>, Refusal>
-    ensures text { IfOk result (λ text. IsTrue H.told → IsSomeAnd (file_at (H.texts host.old) name.now) (λ all. text.items ≡ take (schedule_limit + 1) all)) }
+/// The most bytes of a configuration.
+const CONFIG_LIMIT: usize = 1048576;
+
+/// The text of a name, up to so many bytes.
+fn fetch_text<H: Sources>(
+    alloc: Global,
+    host: &mut H,
+    name: &str,
+    most: usize,
+) -> Result<Vec<u8>, Refusal>
+    ensures text { IfOk result (λ text. IsTrue H.told → IsSomeAnd (file_at (H.texts host.old) name.now) (λ all. text.items ≡ take most all)) }
     ensures cause { RefusalCause (H.faults host.old) (H.faults host.new) result }
     ensures texts { H.texts host.new ≡ H.texts host.old }
     ensures spent { (n : ℕ) → H.spent host.new n ≡ H.spent host.old n }
 {
     let mut input = host.source(alloc, name)?;
-    let text = read_text(alloc, &mut input, SCHEDULE_LIMIT + 1);
+    let text = read_text(alloc, &mut input, most);
     host.done(input);
     text
 }
@@ -33,85 +42,102 @@ fn run_client<W: World, H: Host<W>>(
     alloc: Global,
     host: &mut H,
     lines: &[&[u8]],
+    block_size: u64,
 ) -> Result<Vec<Reply>, Refusal>
+    requires least { 4096 ≤ block_size }
+    requires most { block_size ≤ 16777216 }
     ensures permitted { IfOk result (λ replies. ArePermitted W.told W.files (map (λ line. line.now) lines.now) replies.items (H.spent host.old 1).1 (H.spent host.new 1).1) }
     ensures cause { RefusalCause (H.faults host.old) (H.faults host.new) result }
 {
+    if lines.is_empty() {
+        return Ok(Vec::new(alloc));
+    }
     let mut link = host.link(alloc, 1)?;
-    let replies = serve_all(alloc, &mut link, lines);
+    let replies = serve_all(alloc, &mut link, lines, block_size);
     host.back(link);
     Ok(replies?)
 }
 
-/// What became of the work.
-#[derive(Drop)]
-enum Done {
-    Replies(Vec<Reply>),
-    NoSchedule,
-    Fault,
-    Memory,
-}
-
-/// Runs the schedule of this name.
-fn run_schedule<W: World, H: Host<W>>(alloc: Global, host: &mut H, name: &str) -> Done
-    ensures { IsRun W.told W.files H.told (H.texts host.old) (Some name.now) (H.spent host.old 1).1 (H.spent host.new 1).1 (H.faults host.old) (H.faults host.new) result }
+/// Runs the schedule of a name, with files in blocks of so many bytes.
+fn run_schedule<W: World, H: Host<W>>(
+    alloc: Global,
+    host: &mut H,
+    name: &str,
+    block_size: u64,
+) -> Result<Outcome, Memory>
+    requires least { 4096 ≤ block_size }
+    requires most { block_size ≤ 16777216 }
+    ensures { IfOk result (Runs W.told W.files H.told (H.texts host.old) name.now (H.faults host.old) (H.faults host.new) (H.spent host.old 1).1 (H.spent host.new 1).1) }
 {
-    let text = match fetch_text(alloc, host, name) {
+    let text = match fetch_text(alloc, host, name, SCHEDULE_LIMIT + 1) {
         Ok(text) => text,
-        Err(Refusal::Fault) => return Done::Fault,
-        Err(Refusal::Memory) => return Done::Memory,
+        Err(Refusal::Fault) => return Ok(Outcome::Fault(Part::Schedule)),
+        Err(Refusal::Memory) => return Err(Memory),
     };
     let lines = match read_schedule(alloc, &text) {
-        Ok(Some(lines)) => lines,
-        Ok(None) => return Done::NoSchedule,
-        Err(_) => return Done::Memory,
+        Ok(lines) => lines,
+        Err(ScheduleRefusal::Bad { line }) => return Ok(Outcome::Schedule { line }),
+        Err(ScheduleRefusal::Memory) => return Err(Memory),
     };
-    match run_client::<W, H>(alloc, host, &lines) {
-        Ok(replies) => Done::Replies(replies),
-        Err(Refusal::Fault) => Done::Fault,
-        Err(Refusal::Memory) => Done::Memory,
+    match run_client::<W, H>(alloc, host, &lines, block_size) {
+        Ok(replies) => Ok(Outcome::Replies(Replies::new(replies))),
+        Err(Refusal::Fault) => Ok(Outcome::Fault(Part::Link(1))),
+        Err(Refusal::Memory) => Err(Memory),
     }
 }
 
-/// Runs the schedule that the words name, and writes the replies to it. The answer is the program's exit status: 0 where
-/// the work was done, 1 for the words, 2 for the schedule, 3 for a failed host, 4 for a failed sink, 5 for want of memory.
+/// What a call with these words comes to. The words are read first, then the configuration, then the schedule.
+fn run<W: World, H: Host<W>>(
+    alloc: Global,
+    words: &[String],
+    host: &mut H,
+) -> Result<Outcome, Memory>
+    ensures { IfOk result (Causes W.told W.files (record { told = H.told; texts = H.texts host.old; words = map string_bytes words.now }) (H.faults host.old) (H.faults host.new) (H.spent host.old 1).1 (H.spent host.new 1).1) }
+{
+    let call = match read_words(words) {
+        None => return Ok(Outcome::Usage),
+        Some(call) => call,
+    };
+    let text = match fetch_text(alloc, host, call.config, CONFIG_LIMIT + 1) {
+        Ok(text) => text,
+        Err(Refusal::Fault) => return Ok(Outcome::Fault(Part::Config)),
+        Err(Refusal::Memory) => return Err(Memory),
+    };
+    let config = match read_config(&text, call.capacity) {
+        Ok(config) => config,
+        Err(refusal) => return Ok(Outcome::from(refusal)),
+    };
+    run_schedule::<W, H>(alloc, host, call.schedule, config.blocksize)
+}
+
+/// The exit status of a program that writes what a call comes to: the outcome's, 4 where the sink failed, 5 for want of
+/// memory.
 pub fn run_replay<W: World, H: Host<W>, S: Sink>(
     alloc: Global,
     words: &[String],
     host: &mut H,
     out: &mut S,
 ) -> u8
-    // What was written is the text of replies that are permitted.
-    ensures done { result ≡ 0 → WritesReplies (AreReplies W.told W.files H.told (H.texts host.old) (schedule_name (map string_bytes words.now)) (H.spent host.old 1).1 (H.spent host.new 1).1) S.told (S.written out.old) (S.written out.new) }
-    // Where the client's link had no fault, they are the plain replies, but for want of memory.
-    ensures plain { result ≡ 0 → Stayed (H.spent host.old 1).1 (H.spent host.new 1).1 → WritesReplies (ArePlainReplies W.told W.files H.told (H.texts host.old) (schedule_name (map string_bytes words.now))) S.told (S.written out.old) (S.written out.new) }
-    ensures form { (result ≡ 1) ↔ (schedule_name (map string_bytes words.now) ≡ None) }
-    ensures schedule { result ≡ 2 → IsNoSchedule H.told (H.texts host.old) (schedule_name (map string_bytes words.now)) }
-    ensures host { result ≡ 3 → Rose (H.faults host.old) (H.faults host.new) }
-    ensures sink { result ≡ 4 → Rose (S.faults out.old) (S.faults out.new) }
+    // What was written is the text of an outcome that has its cause, whole, and the answer is its status ..
+    ensures whole { result ≤ 3 → Writes (Causes W.told W.files (record { told = H.told; texts = H.texts host.old; words = map string_bytes words.now }) (H.faults host.old) (H.faults host.new) (H.spent host.old 1).1 (H.spent host.new 1).1) result S.told (S.written out.old) (S.written out.new) }
+    // .. or a front of it, where the sink failed ..
+    ensures sink { result ≡ 4 → Rose (S.faults out.old) (S.faults out.new) × WritesFront (Causes W.told W.files (record { told = H.told; texts = H.texts host.old; words = map string_bytes words.now }) (H.faults host.old) (H.faults host.new) (H.spent host.old 1).1 (H.spent host.new 1).1) S.told (S.written out.old) (S.written out.new) }
+    // .. or a front of it, or nothing, where memory ran out.
+    ensures memory { result ≡ 5 → (S.written out.new ≡ S.written out.old) ⊎ WritesFront (Causes W.told W.files (record { told = H.told; texts = H.texts host.old; words = map string_bytes words.now }) (H.faults host.old) (H.faults host.new) (H.spent host.old 1).1 (H.spent host.new 1).1) S.told (S.written out.old) (S.written out.new) }
     ensures last { result ≤ 5 }
 
-    // A refusal writes nothing; a failed sink, or want of memory, leaves a front of such a text, or nothing.
-    ensures silent { result ≡ 1 ⊎ (result ≡ 2 ⊎ result ≡ 3) → S.written out.new ≡ S.written out.old }
-    ensures front { result ≡ 4 → WritesFront (AreReplies W.told W.files H.told (H.texts host.old) (schedule_name (map string_bytes words.now)) (H.spent host.old 1).1 (H.spent host.new 1).1) S.told (S.written out.old) (S.written out.new) }
-    ensures memory { result ≡ 5 → (S.written out.new ≡ S.written out.old) ⊎ WritesFront (AreReplies W.told W.files H.told (H.texts host.old) (schedule_name (map string_bytes words.now)) (H.spent host.old 1).1 (H.spent host.new 1).1) S.told (S.written out.old) (S.written out.new) }
-
-    // Where the host tells a schedule and nothing failed, the work is done, unless memory runs out.
-    ensures complete { IsUnhindered H.told (H.texts host.old) (schedule_name (map string_bytes words.now)) (H.faults host.old) (H.faults host.new) (S.faults out.old) (S.faults out.new) → (result ≡ 0) ⊎ (result ≡ 5) }
+    // Where the client's link had no fault, the replies are the plain ones, but for want of memory.
+    ensures plain { result ≡ 0 → Stayed (H.spent host.old 1).1 (H.spent host.new 1).1 → WritesPlain W.told W.files (record { told = H.told; texts = H.texts host.old; words = map string_bytes words.now }) S.told (S.written out.old) (S.written out.new) }
+    // Where all is of the form and nothing failed, the schedule is run, unless memory runs out.
+    ensures complete { IsUnhindered (record { told = H.told; texts = H.texts host.old; words = map string_bytes words.now }) (H.faults host.old) (H.faults host.new) (S.faults out.old) (S.faults out.new) → (result ≡ 0) ⊎ (result ≡ 5) }
 {
-    let name = match read_words(words) {
-        None => return 1,
-        Some(name) => name,
+    let outcome = match run::<W, H>(alloc, words, host) {
+        Ok(outcome) => outcome,
+        Err(_) => return 5,
     };
-    let replies = match run_schedule::<W, H>(alloc, host, name) {
-        Done::NoSchedule => return 2,
-        Done::Fault => return 3,
-        Done::Memory => return 5,
-        Done::Replies(replies) => replies,
-    };
-    match write_client(alloc, out, 1, &replies) {
-        Ok(()) => return 0,
-        Err(Refusal::Fault) => return 4,
-        Err(Refusal::Memory) => return 5,
+    match write_outcome(alloc, out, &outcome) {
+        Ok(()) => outcome.status(),
+        Err(Refusal::Fault) => 4,
+        Err(Refusal::Memory) => 5,
     }
 }

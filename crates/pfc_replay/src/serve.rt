@@ -10,9 +10,6 @@ use pfc_client::{Octets, Reply, Request, RequestRefusal, Session, read_request};
 use pfc_world::{Block, Known, Origin, Refusal, World};
 use std::alloc::Global;
 
-/// Files are fetched in blocks of so many bytes.
-const BLOCK_SIZE: u64 = 4096;
-
 /// The most bytes of one read.
 const READ_LIMIT: u64 = 16777216;
 
@@ -22,8 +19,11 @@ fn read_piece<W: World, O: Origin<W>>(
     link: &mut O,
     known: &Known<W>,
     piece: &Piece,
+    block_size: u64,
 ) -> Result<Vec<u8>, Refusal>
-    requires { piece.now.len ≤ 16777216 }
+    requires piece { piece.now.len ≤ 16777216 }
+    requires least { 4096 ≤ block_size }
+    requires most { block_size ≤ 16777216 }
     ensures bytes { IfOk result (λ v. IsPiece W.told W.files (known.now.path, known.now.size) piece.now v.items) }
     ensures cause { ReadCause (O.faults link.old) (O.faults link.new) (piece_len known.now.size piece.now) result }
     ensures number { O.number link.new ≡ O.number link.old }
@@ -36,9 +36,9 @@ fn read_piece<W: World, O: Origin<W>>(
     let mut bytes = Vec::with_capacity(alloc, (end - piece.off) as usize)?;
     let mut at = piece.off;
     while at < end {
-        let number = at / BLOCK_SIZE;
-        let block = Block::fetch(alloc, link, known, BLOCK_SIZE, number as u32)?;
-        let part = slice(block.bytes(), at - number * BLOCK_SIZE, end - at);
+        let number = at / block_size;
+        let block = Block::fetch(alloc, link, known, block_size, number as u32)?;
+        let part = slice(block.bytes(), at - number * block_size, end - at);
         bytes.extend_from_slice(part)?;
         at += part.len() as u64;
     }
@@ -80,7 +80,10 @@ fn read<W: World, O: Origin<W>>(
     session: &Session<Known<W>>,
     number: u64,
     piece: &Piece,
+    block_size: u64,
 ) -> Reply
+    requires least { 4096 ≤ block_size }
+    requires most { block_size ≤ 16777216 }
     ensures step { Permits W.told W.files (files_of (λ k. (k.path, k.size)) session.now) (Ok (Read number piece.now)) result (files_of (λ k. (k.path, k.size)) session.now) }
     ensures faults { RoseBy (O.faults link.old) (fetch_of result) (O.faults link.new) }
     ensures later { O.faults link.old ≤ O.faults link.new }
@@ -93,7 +96,7 @@ fn read<W: World, O: Origin<W>>(
     if piece.len > READ_LIMIT {
         return Reply::Range;
     }
-    match read_piece(alloc, link, known, piece) {
+    match read_piece(alloc, link, known, piece, block_size) {
         Ok(bytes) => Reply::Bytes(Octets::new(bytes)),
         Err(Refusal::Fault) => Reply::Fetch,
         Err(Refusal::Memory) => Reply::Memory,
@@ -117,7 +120,10 @@ fn serve_one<W: World, O: Origin<W>>(
     link: &mut O,
     session: &mut Session<Known<W>>,
     line: &[u8],
+    block_size: u64,
 ) -> Reply
+    requires least { 4096 ≤ block_size }
+    requires most { block_size ≤ 16777216 }
     ensures step { Permits W.told W.files (files_of (λ k. (k.path, k.size)) session.old) (request_of line.now) result (files_of (λ k. (k.path, k.size)) session.new) }
     ensures faults { RoseBy (O.faults link.old) (fetch_of result) (O.faults link.new) }
     ensures later { O.faults link.old ≤ O.faults link.new }
@@ -127,17 +133,22 @@ fn serve_one<W: World, O: Origin<W>>(
         Err(RequestRefusal::Form) => Reply::Request,
         Err(RequestRefusal::Path) => Reply::Path,
         Ok(Request::Open { number, path }) => open(link, session, number, &path),
-        Ok(Request::Read { number, piece }) => read(alloc, link, session, number, &piece),
+        Ok(Request::Read { number, piece }) => read(
+            alloc, link, session, number, &piece, block_size,
+        ),
         Ok(Request::Close { number }) => close(session, number),
     }
 }
 
-/// The replies to request lines, one after the other.
+/// The replies to request lines, one after the other. Files are fetched in blocks of so many bytes.
 pub fn serve_all<W: World, O: Origin<W>>(
     alloc: Global,
     link: &mut O,
     lines: &[&[u8]],
+    block_size: u64,
 ) -> Result<Vec<Reply>, Memory>
+    requires least { 4096 ≤ block_size }
+    requires most { block_size ≤ 16777216 }
     ensures permitted { IfOk result (λ replies. ArePermitted W.told W.files (map (λ line. line.now) lines.now) replies.items (O.faults link.old) (O.faults link.new)) }
     ensures later { O.faults link.old ≤ O.faults link.new }
     ensures number { O.number link.new ≡ O.number link.old }
@@ -145,7 +156,7 @@ pub fn serve_all<W: World, O: Origin<W>>(
     let mut replies = Vec::with_capacity(alloc, lines.len())?;
     let mut session = Session::new(alloc)?;
     for line in lines {
-        let reply = serve_one(alloc, link, &mut session, line);
+        let reply = serve_one(alloc, link, &mut session, line, block_size);
         replies.push(reply)?;
     }
     Ok(replies)

@@ -2,10 +2,14 @@ ghost use Rattle.std.specs.Prelude.{◌≡◌, ◌++◌, ◌∷◌, [], codes, O
 ghost use Rattle.std.specs.Fmt.{decimal};
 ghost use Rattle.pfc_world.specs.Counts.{RefusalCause};
 ghost use Rattle.pfc_world.specs.Texts.{Appends, AppendsFront};
+ghost use Rattle.pfc_replay.specs.Outcome.{text_of, part_text};
+ghost use Rattle.pfc_replay.specs.declared.outcome.Outcome.TheVariants as outcome;
 ghost use Rattle.pfc_client.specs.Replies.{client_text, head_text, line_text};
 
-use pfc_base::{push_number, push_word};
+use crate::outcome::{Outcome, Part};
+use pfc_base::{Memory, push_number, push_word};
 use pfc_client::{Reply, push_reply};
+use pfc_config::Kind;
 use pfc_world::{Refusal, Sink, write_text};
 use std::alloc::Global;
 
@@ -42,7 +46,7 @@ fn write_reply<S: Sink>(
 }
 
 /// Writes what is printed of a client, reply by reply. After a refusal a front of it is written.
-pub fn write_client<S: Sink>(
+fn write_client<S: Sink>(
     alloc: Global,
     out: &mut S,
     number: u32,
@@ -61,4 +65,91 @@ pub fn write_client<S: Sink>(
         write_reply(alloc, out, &mut line, reply)?;
     }
     Ok(())
+}
+
+/// The line that says how the program is called.
+const USAGE: &[u8] =
+    b"usage: xcache_replay <config> <origin> <cache> <capacity> <schedule> | generate <number>\n";
+
+/// Writes how the program is called.
+fn write_usage<S: Sink>(out: &mut S) -> Result<(), Refusal>
+    ensures ok { OnOk result (Appends S.told (S.written out.old) (S.written out.new) (text_of outcome.Usage)) }
+    ensures front { AppendsFront S.told (S.written out.old) (S.written out.new) (text_of outcome.Usage) }
+    ensures cause { RefusalCause (S.faults out.old) (S.faults out.new) result }
+{
+    write_text(out, USAGE)?;
+    Ok(())
+}
+
+/// Writes which line of the configuration is refused, and why.
+fn write_config<S: Sink>(alloc: Global, out: &mut S, line: u32, kind: Kind) -> Result<(), Refusal>
+    ensures ok { OnOk result (Appends S.told (S.written out.old) (S.written out.new) (text_of (outcome.Config line kind))) }
+    ensures front { AppendsFront S.told (S.written out.old) (S.written out.new) (text_of (outcome.Config line kind)) }
+    ensures cause { RefusalCause (S.faults out.old) (S.faults out.new) result }
+{
+    let mut text = Vec::new(alloc);
+    push_word(&mut text, b"config ")?;
+    push_number(alloc, &mut text, u64::from(line))?;
+    push_word(&mut text, b" ")?;
+    push_word(&mut text, kind.text().as_bytes())?;
+    push_word(&mut text, b"\n")?;
+    write_text(out, &text)?;
+    Ok(())
+}
+
+/// Writes which line of the schedule is refused.
+fn write_schedule<S: Sink>(alloc: Global, out: &mut S, line: u64) -> Result<(), Refusal>
+    ensures ok { OnOk result (Appends S.told (S.written out.old) (S.written out.new) (text_of (outcome.Schedule line))) }
+    ensures front { AppendsFront S.told (S.written out.old) (S.written out.new) (text_of (outcome.Schedule line)) }
+    ensures cause { RefusalCause (S.faults out.old) (S.faults out.new) result }
+{
+    let mut text = Vec::new(alloc);
+    push_word(&mut text, b"schedule ")?;
+    push_number(alloc, &mut text, line)?;
+    push_word(&mut text, b"\n")?;
+    write_text(out, &text)?;
+    Ok(())
+}
+
+/// Appends the name of what failed.
+fn push_part(alloc: Global, text: &mut Vec<u8>, part: Part) -> Result<(), Memory>
+    ensures { OnOk result (text.new.items ≡ text.old.items ++ part_text part) }
+{
+    match part {
+        Part::Config => push_word(text, b"config"),
+        Part::Schedule => push_word(text, b"schedule"),
+        Part::Link(number) => {
+            push_word(text, b"link ")?;
+            push_number(alloc, text, u64::from(number))
+        }
+    }
+}
+
+/// Writes what of the host failed.
+fn write_fault<S: Sink>(alloc: Global, out: &mut S, part: Part) -> Result<(), Refusal>
+    ensures ok { OnOk result (Appends S.told (S.written out.old) (S.written out.new) (text_of (outcome.Fault part))) }
+    ensures front { AppendsFront S.told (S.written out.old) (S.written out.new) (text_of (outcome.Fault part)) }
+    ensures cause { RefusalCause (S.faults out.old) (S.faults out.new) result }
+{
+    let mut text = Vec::new(alloc);
+    push_word(&mut text, b"fault ")?;
+    push_part(alloc, &mut text, part)?;
+    push_word(&mut text, b"\n")?;
+    write_text(out, &text)?;
+    Ok(())
+}
+
+/// Writes the text of an outcome. After a refusal a front of it is written.
+pub fn write_outcome<S: Sink>(alloc: Global, out: &mut S, outcome: &Outcome) -> Result<(), Refusal>
+    ensures ok { OnOk result (Appends S.told (S.written out.old) (S.written out.new) (text_of outcome.now)) }
+    ensures front { AppendsFront S.told (S.written out.old) (S.written out.new) (text_of outcome.now) }
+    ensures cause { RefusalCause (S.faults out.old) (S.faults out.new) result }
+{
+    match outcome {
+        Outcome::Replies(replies) => write_client(alloc, out, 1, replies.as_slice()),
+        Outcome::Usage => write_usage(out),
+        Outcome::Config { line, kind } => write_config(alloc, out, *line, *kind),
+        Outcome::Schedule { line } => write_schedule(alloc, out, *line),
+        Outcome::Fault(part) => write_fault(alloc, out, *part),
+    }
 }

@@ -1,15 +1,18 @@
-use Rattle.std.proofs.Common.{sym, ap, ◌∙◌, map}
+use Rattle.std.proofs.Common.{◌≡◌, sym, ap, ◌∙◌, map, refl}
+use Rattle.std.specs.Prelude.{Ok}
 use Rattle.pfc_replay.specs.Schedule.{schedule_of}
-use Rattle.pfc_replay.proofs.Schedules.{no-schedule, asked-by}
+use Rattle.pfc_replay.proofs.Schedules.{schedule-read, schedule-refused}
 use Rattle.pfc_replay.proofs.replay.run_schedule.Goals as goal
 
-pub returns-in-Ok-None : goal.returns-in-Ok-None
-returns-in-Ok-None g c told =
-    no-schedule _ _ (c.in-Ok.ensures.text told) ((rw c.in-Ok-None.field-0-is at c.in-Ok-None.ensures) ∙ ap schedule_of c.deref.ensures.value)
+pub returns-in-Err-Bad : goal.returns-in-Err-Bad
+returns-in-Err-Bad g c told =
+    schedule-refused _ _ c.in-Err-Bad.line _ (rw c.in-Err-Bad.field-0-is refl) (c.in-Ok.ensures.text told)
+    (ap schedule_of (sym c.deref.ensures.value) ∙ (rw c.in-Err-Bad.field-0-is at c.in-Err-Bad.ensures.err))
 
 pub returns-in-Ok-run_client : goal.returns-in-Ok-run_client
-returns-in-Ok-run_client g c = (
-  map (λ line. line.now) c.in-Ok-Some.lines.items,
-  λ told. asked-by _ _ _ (c.in-Ok.ensures.text told) ((rw c.in-Ok-Some.field-0-is at c.in-Ok-Some.ensures) ∙ ap schedule_of c.deref.ensures.value),
-  rw (← c.deref-2.ensures.value, ← c.in-Ok.ensures.spent 1) c.in-Ok-run_client.ensures.permitted,
-)
+returns-in-Ok-run_client g c =
+    let lines = map (λ line. line.now) c.in-Ok-read_schedule.lines.items in (
+      lines,
+      λ told. schedule-read (λ r. r ≡ Ok lines) _ _ (c.in-Ok.ensures.text told) (ap schedule_of (sym c.deref.ensures.value) ∙ c.in-Ok-read_schedule.ensures.ok),
+      rw (c.new.ensures, ← c.deref-2.ensures.value, ← c.in-Ok.ensures.spent 1) c.in-Ok-run_client.ensures.permitted,
+    )

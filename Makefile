@@ -1,0 +1,26 @@
+# make demo: makes an origin folder with a file of some MiB, runs a schedule over it and shows the replies
+# make bin: builds the proved programs into bin/
+# make bench: prints what the hot paths cost on this machine
+
+PROGRAMS := xcache_replay xrdpfc_print
+PROGRAMS := $(filter $(PROGRAMS),$(notdir $(wildcard crates/*)))
+
+.PHONY: demo bin bench clean
+
+demo: bin
+	sh examples/demo.sh
+
+bin: $(addprefix bin/,$(PROGRAMS))
+
+# A run without words proves, builds and starts the program, which then says how it is called.
+bin/%: FORCE
+	@mkdir -p bin
+	@cd crates/$* && (rt run >/dev/null 2>&1 || true) && cp out/$* ../../bin/$*
+
+bench:
+	@cd crates/pfc_bench && rt run -- measure 2>/dev/null
+
+clean:
+	rm -rf bin crates/*/out
+
+FORCE:

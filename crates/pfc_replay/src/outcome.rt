@@ -1,0 +1,86 @@
+ghost use Rattle.std.specs.Prelude.{◌≡◌};
+ghost use Rattle.pfc_replay.specs.Outcome.{outcome_of, status_of};
+
+use pfc_client::Reply;
+use pfc_config::{ConfigRefusal, Kind};
+use std::marker::Model;
+
+/// Replies in the order of the requests, which contracts see as a list.
+#[derive(Drop)]
+pub struct Replies {
+    replies: Vec<Reply>,
+}
+
+impl Model for Replies {
+    ghost use Rattle.std.specs.Prelude.{List};
+    ghost use Rattle.pfc_client.specs.declared.reply.Reply.{Reply};
+
+    ghost Value = { List Reply };
+
+    ghost view = { λ r. r.replies.items };
+}
+
+impl Replies {
+    pub fn new(replies: Vec<Reply>) -> Replies
+        ensures { result ≡ replies.items }
+    {
+        Replies { replies }
+    }
+
+    pub fn as_slice(&self) -> &[Reply]
+        ensures { result.now ≡ self.now }
+    {
+        &self.replies
+    }
+}
+
+/// What of the host failed.
+#[derive(Clone, Copy, Debug, PartialEq, Eq)]
+pub enum Part {
+    /// The configuration's source.
+    Config,
+    /// The schedule's source.
+    Schedule,
+    /// The link of this number.
+    Link(u32),
+}
+
+/// What a run comes to, before its text is written.
+#[derive(Drop)]
+pub enum Outcome {
+    /// The schedule was run.
+    Replies(Replies),
+    /// The words are not of the form.
+    Usage,
+    /// The configuration is refused for this line, 0 for its length.
+    Config { line: u32, kind: Kind },
+    /// The schedule is refused for this line, 0 for its length.
+    Schedule { line: u64 },
+    /// The host failed.
+    Fault(Part),
+}
+
+impl From<ConfigRefusal> for Outcome {
+    ghost from_gives = { λ refusal outcome. outcome ≡ outcome_of refusal };
+
+    fn from(refusal: ConfigRefusal) -> Self {
+        match refusal {
+            ConfigRefusal::Bad { line, kind } => Outcome::Config { line, kind },
+        }
+    }
+}
+
+impl Outcome {
+    /// The exit status.
+    pub fn status(&self) -> u8
+        ensures { result ≡ status_of self.now }
+    {
+        match self {
+            Outcome::Replies(_) => 0,
+            Outcome::Usage => 1,
+            Outcome::Config { .. } => 2,
+            Outcome::Schedule { .. } => 2,
+            Outcome::Fault(_) => 3,
+        }
+    }
+}
