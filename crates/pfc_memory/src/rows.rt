@@ -36,7 +36,7 @@ impl World for RowWorld {
 impl MemoryWorld for RowWorld {
     ghost is_told = { refl };
 
-    #[tactic(auto, using(crate::specs::Rows::row_laws))]
+    #[tactic(auto, using(crate::proofs::RowFiles::row_laws))]
     fn size(path: &Path) -> Option<u64> {
         row_size(path.as_bytes())
     }

@@ -1,6 +1,7 @@
-use Rattle.std.proofs.Common.{◌≡◌, ◌∙◌, ◌+◌, ◌<◌, length, arith, refl, ap, sym, add-one}
+use Rattle.std.proofs.Common.{arith, refl}
 use Rattle.std.proofs.lemmas.Grind.{common_steps}
-use Rattle.pfc_memory.specs.Rows.{row_bytes, row_bytes-more}
+use Rattle.pfc_memory.specs.Rows.{row_bytes}
+use Rattle.pfc_memory.proofs.RowFiles.{row_bytes-more}
 use Rattle.pfc_memory.proofs.rows.fill_rows.Goals as goal
 
 pub loop-j-init : goal.loop-j-init

@@ -1,4 +1,3 @@
-use Rattle.std.proofs.Common.{◌≡◌}
 use Rattle.pfc_world.specs.Files.{size_at-short}
 use Rattle.pfc_memory.proofs.link.MemoryLinkOrigin.stat.Goals as goal
 

@@ -1,5 +1,6 @@
-use Rattle.std.proofs.Common.{◌≡◌, length, refl}
-use Rattle.pfc_memory.specs.Rows.{row_bytes, rows-hold, row_sizes, row_sizes-small}
+use Rattle.std.proofs.Common.{length, refl}
+use Rattle.pfc_memory.specs.Rows.{row_sizes, row_sizes-small}
+use Rattle.pfc_memory.proofs.RowFiles.{rows-hold}
 use Rattle.pfc_memory.proofs.rows.RowWorldMemoryWorld.fill.Goals as goal
 
 pub fill_rows-requires : goal.fill_rows-requires
