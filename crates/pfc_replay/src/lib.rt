@@ -9,3 +9,6 @@ mod words;
 mod write;
 
 pub use replay::run_replay;
+
+#[cfg(test)]
+mod tests;
