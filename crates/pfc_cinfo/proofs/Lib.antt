@@ -1,5 +1,6 @@
 pub mod Bitmap
 pub mod Bytes
+pub mod Claimed
 pub mod Counts
 pub mod Decoded
 pub mod Encoded

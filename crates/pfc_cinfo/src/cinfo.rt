@@ -24,3 +24,20 @@ impl Model for Cinfo {
 
     ghost invariant = { λ c. IsTiled c.block c.size (length c.claims) };
 }
+
+impl Cinfo {
+    ghost use Rattle.std.specs.Prelude.{◌≡◌};
+    ghost use Rattle.pfc_cinfo.specs.Cinfo as words;
+
+    /// How many bytes the claimed blocks have: each a whole block, but for a shorter last one.
+    pub fn claimed_bytes(&self) -> u64
+        ensures { result ≡ words.claimed_bytes self.now }
+    {
+        let whole = u64::from(self.claims.count()) * self.block;
+        let bound = self.claims.bound();
+        if bound == 0 || !self.claims.test(bound - 1) {
+            return whole;
+        }
+        whole - (u64::from(bound) * self.block - self.size)
+    }
+}
