@@ -4,6 +4,7 @@ mod Bytes
 pub mod CinfoReading
 mod Counts
 pub mod CrcLinear
+pub mod CrcSmall
 mod CrcTables
 mod CrcWord
 pub mod Lists

@@ -1,0 +1,12 @@
+pub mod Bitmap
+pub mod Bytes
+pub mod Claimed
+pub mod Counts
+pub mod Decoded
+pub mod Encoded
+pub mod Gather
+pub mod Passing
+pub mod ReadBack
+pub mod RecordsRead
+pub mod Reserved
+pub mod Spelled

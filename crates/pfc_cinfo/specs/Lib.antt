@@ -1,0 +1,3 @@
+pub mod Cinfo
+pub mod Damage
+pub mod Decoding

@@ -1,0 +1,75 @@
+// The one spelling of a cinfo.
+ghost use Rattle.std.specs.Prelude.{◌≡◌, ◌+◌, ◌<◌, ◌≤◌, ◌^◌, ◌++◌, length, drop, All, IfOk, OnOk};
+ghost use Rattle.std.specs.List.{flat_map};
+ghost use Rattle.pfc_base.specs.Crc.{crc_of};
+ghost use Rattle.pfc_base.specs.Cinfo.{FitsRecord, FitsCinfo, header_of, record_of, four, IsCinfo};
+
+use crate::fields::{put_eight, put_four};
+use crate::{Cinfo, Record};
+use pfc_base::Memory;
+use pfc_base::crc::crc32c;
+use std::alloc::Global;
+
+fn put_header(out: &mut Vec<u8>, cinfo: &Cinfo) -> Result<(), Memory>
+    ensures written { OnOk result (out.new.items ≡ out.old.items ++ header_of cinfo.now) }
+    ensures fits { OnOk result (All FitsRecord cinfo.now.head.records → FitsCinfo cinfo.now) }
+{
+    let head = &cinfo.head;
+    put_four(out, 4)?;
+    put_eight(out, cinfo.block)?;
+    put_eight(out, cinfo.size)?;
+    put_eight(out, head.created)?;
+    put_eight(out, head.accesses)?;
+    put_four(out, head.records.as_slice().len() as u32)
+}
+
+fn put_record(out: &mut Vec<u8>, record: &Record) -> Result<(), Memory>
+    ensures written { OnOk result (out.new.items ≡ out.old.items ++ record_of record.now) }
+    ensures fits { OnOk result (FitsRecord record.now) }
+{
+    put_eight(out, record.attach)?;
+    put_eight(out, record.detach)?;
+    put_four(out, record.ios)?;
+    put_four(out, record.duration)?;
+    put_four(out, record.merged)?;
+    put_four(out, 0)?;
+    put_eight(out, record.hit)?;
+    put_eight(out, record.missed)?;
+    put_eight(out, record.bypassed)?;
+    put_eight(out, 0)
+}
+
+fn put_records(out: &mut Vec<u8>, records: &[Record]) -> Result<(), Memory>
+    ensures written { OnOk result (out.new.items ≡ out.old.items ++ flat_map record_of records.now) }
+    ensures fits { OnOk result (All FitsRecord records.now) }
+{
+    for record in records {
+        put_record(out, record)?;
+    }
+    Ok(())
+}
+
+/// Appends the checksum of all that stands from a place on.
+fn put_sum(out: &mut Vec<u8>, from: usize) -> Result<(), Memory>
+    requires { from ≤ length out.old.items }
+    ensures { OnOk result (out.new.items ≡ out.old.items ++ four (crc_of (drop from out.old.items))) }
+{
+    let sum = crc32c(&out.as_slice()[from..]);
+    put_four(out, sum)
+}
+
+/// The bytes of the cinfo file that says this.
+pub fn encode(alloc: Global, cinfo: &Cinfo) -> Result<Vec<u8>, Memory>
+    ensures { IfOk result (λ bytes. IsCinfo bytes.items cinfo.now) }
+{
+    let head = &cinfo.head;
+    let records = head.records.as_slice();
+    let bitmap = (cinfo.claims.bound() as usize).div_ceil(8);
+    let mut out = Vec::with_capacity(alloc, 48 + bitmap + 64 * records.len())?;
+    put_header(&mut out, cinfo)?;
+    put_sum(&mut out, 0)?;
+    cinfo.claims.bytes_into(&mut out)?;
+    put_records(&mut out, records)?;
+    put_sum(&mut out, 44)?;
+    Ok(out)
+}
