@@ -4,7 +4,6 @@ mod Bytes
 pub mod CinfoReading
 mod Counts
 pub mod CrcLinear
-pub mod CrcSmall
 mod CrcTables
 mod CrcWord
 pub mod Lists

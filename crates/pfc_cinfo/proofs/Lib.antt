@@ -2,6 +2,7 @@ pub mod Bitmap
 pub mod Bytes
 pub mod Claimed
 pub mod Counts
+pub mod CrcSmall
 pub mod Decoded
 pub mod Encoded
 pub mod Gather

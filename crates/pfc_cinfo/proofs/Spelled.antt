@@ -9,7 +9,7 @@ use Rattle.pfc_base.specs.BlockSet.{IsBitmap}
 use Rattle.pfc_base.specs.Crc.{crc_of}
 use Rattle.pfc_base.specs.Cinfo.{Record, Cinfo, FitsCinfo, four, header_of, record_of, records_of, summed, bitmap_in, IsCinfo, four_at, eight_at, records_in, cinfo_in}
 use Rattle.pfc_base.proofs.CinfoReading.{cinfo_in-is}
-use Rattle.pfc_base.proofs.CrcSmall.{crc_of-lt}
+use Rattle.pfc_cinfo.proofs.CrcSmall.{crc_of-lt}
 use Rattle.pfc_cinfo.specs.Damage.{blocks_in, bitmap_len_in, padding_of, are_clear, Passes}
 use Rattle.pfc_cinfo.proofs.Bytes.{IsBytes, IsBytes-take, IsBytes-drop}
 use Rattle.pfc_cinfo.proofs.Bitmap.{no_padding}
