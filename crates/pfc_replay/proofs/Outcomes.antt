@@ -13,10 +13,11 @@ use Rattle.pfc_replay.specs.Words.{Call, call_of}
 use Rattle.pfc_replay.specs.Schedule.{schedule_of}
 use Rattle.pfc_replay.specs.Outcome.{Asked, Causes, IsTaken, SaysOf, IsUnhindered, WritesPlain, status_of, text_of, outcome_of}
 use Rattle.pfc_replay.specs.Run.{Runs}
+use Rattle.pfc_replay.specs.declared.outcome.Part.TheVariants as part
 use Rattle.pfc_replay.specs.declared.outcome.Outcome.{Outcome}
 use Rattle.pfc_replay.specs.declared.outcome.Outcome.TheVariants.{Replies, Usage, Config, Schedule, Fault}
 
-rose-before : (a b c : ℕ) → a ≤ b → Rose b c → Rose a c
+pub rose-before : (a b c : ℕ) → a ≤ b → Rose b c → Rose a c
 rose-before a b c h rose = grind (arith, h, rose)
 
 -- what running the schedule comes to is what the call comes to, where its configuration was taken
@@ -26,7 +27,10 @@ caused told files asked call host mid host' link link' (Replies replies) taken l
 caused told files asked call host mid host' link link' Usage taken low run = absurd run
 caused told files asked call host mid host' link link' (Config line kind) taken low run = absurd run
 caused told files asked call host mid host' link link' (Schedule line) taken low run = (call, taken, run)
-caused told files asked call host mid host' link link' (Fault part) taken low run = rose-before host mid host' low run
+caused told files asked call host mid host' link link' (Fault part.Config) taken low run = absurd run.1
+caused told files asked call host mid host' link link' (Fault part.Schedule) taken low run = (rose-before host mid host' low run.0, (call, taken))
+caused told files asked call host mid host' link link' (Fault (part.Link number)) taken low run =
+    (rose-before host mid host' low run.0, (run.1.0, call, taken, run.1.1, run.1.2))
 
 pub caused-result : (told : Bool) (files : Files) (asked : Asked) (call : Call) (host mid host' link link' : ℕ) (result : Result Outcome Memory) →
     IsTaken asked call → host ≤ mid → IfOk result (Runs told files asked.told asked.texts call.schedule mid host' link link') → IfOk result (Causes told files asked host host' link link')
@@ -78,4 +82,4 @@ unhindered-outcome told files asked host host' sink sink' link link' (Schedule l
     let same = taken-call asked cause.0 free.call.0 cause.1.words free.call.1.words in
     let schedule = subst (λ (c : Call). SaysOf asked c.schedule (λ text. schedule_of text ≡ Err line)) same cause.2 in
     absurd (both _ _ _ (λ text. ok-err (schedule_of text) line) (schedule free.told) (free.call.2 free.told))
-unhindered-outcome told files asked host host' sink sink' link link' (Fault part) free cause = absurd (stayed-rose host host' cause free.host_stayed)
+unhindered-outcome told files asked host host' sink sink' link link' (Fault part) free cause = absurd (stayed-rose host host' cause.0 free.host_stayed)

@@ -60,6 +60,13 @@ pub record IsTaken (asked : Asked) (call : Call) : Type 0 where
   pub words : call_of asked.words ≡ Some call
   pub config : SaysOf asked call.config (λ text. is_ok (configured text call.capacity) ≡ true)
 
+-- how far a run had come when this of the host failed
+abbrev pub Reaches : Asked → Part → Type 0
+Reaches asked part.Config = (call : Call) × (call_of asked.words ≡ Some call)
+Reaches asked part.Schedule = (call : Call) × IsTaken asked call
+Reaches asked (part.Link number) =
+    (number ≡ 1) × (call : Call) × IsTaken asked call × (lines : List (List ℕ)) × SaysOf asked call.schedule (λ text. schedule_of text ≡ Ok lines)
+
 -- The cause of an outcome, with the counts before and after of the host's faults and of the faults of client 1's link.
 abbrev pub Causes : Bool → Files → Asked → ℕ → ℕ → ℕ → ℕ → Outcome → Type 0
 Causes told files asked host host' link link' (Replies replies) =
@@ -70,7 +77,7 @@ Causes told files asked host host' link link' (Config line kind) =
     (call : Call) × (call_of asked.words ≡ Some call) × SaysOf asked call.config (λ text. configured text call.capacity ≡ Err (Bad line kind))
 Causes told files asked host host' link link' (Schedule line) =
     (call : Call) × IsTaken asked call × SaysOf asked call.schedule (λ text. schedule_of text ≡ Err line)
-Causes told files asked host host' link link' (Fault part) = Rose host host'
+Causes told files asked host host' link link' (Fault part) = Rose host host' × Reaches asked part
 
 -- what came to the sink is the text of such an outcome, and its status is the answer
 abbrev pub Writes : (Outcome → Type 0) → ℕ → Bool → List ℕ → List ℕ → Type 0

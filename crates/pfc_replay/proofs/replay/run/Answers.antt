@@ -5,6 +5,12 @@ use Rattle.pfc_replay.proofs.Configs.{config-read}
 use Rattle.pfc_replay.proofs.Outcomes.{caused-result, config-refused}
 use Rattle.pfc_replay.proofs.replay.run.Goals as goal
 
+pub returns-in-Err-Fault : goal.returns-in-Err-Fault
+returns-in-Err-Fault g c = (
+  (rw c.in-Err-Fault.field-0-is at c.in-Err-Fault.ensures.cause).1,
+  (record { config = c.in-Some.call.config.now; capacity = c.in-Some.call.capacity; schedule = c.in-Some.call.schedule.now }, sym c.in-Some.ensures),
+)
+
 pub returns-in-Err : goal.returns-in-Err
 returns-in-Err g c =
     let capacity = c.in-Some.call.capacity in
