@@ -20,4 +20,4 @@ pub use laws::{
 pub use log::FileLog;
 pub use runs::{push_runs, push_set};
 pub use start::Start;
-pub use text::{push_entry, push_log};
+pub use text::{push_entry, push_line, push_log};

@@ -79,8 +79,8 @@ fn push_way(alloc: Global, out: &mut Vec<u8>, why: Way) -> Result<(), Memory>
     }
 }
 
-/// Adds a word and numbers behind it.
-fn push_line(alloc: Global, out: &mut Vec<u8>, word: &[u8], numbers: &[u64]) -> Result<(), Memory>
+/// Adds a word and numbers behind it, each after a blank. Where memory is refused, a part of the text may stand.
+pub fn push_line(alloc: Global, out: &mut Vec<u8>, word: &[u8], numbers: &[u64]) -> Result<(), Memory>
     ensures { OnOk result (out.new.items ≡ out.old.items ++ word.now ++ numbers_text numbers.now) }
 {
     push_word(out, word)?;
@@ -177,7 +177,7 @@ fn push_start(alloc: Global, out: &mut Vec<u8>, start: &Start) -> Result<(), Mem
     }
 }
 
-fn push_lines(alloc: Global, out: &mut Vec<u8>, entries: &[Entry]) -> Result<(), Memory>
+pub fn push_lines(alloc: Global, out: &mut Vec<u8>, entries: &[Entry]) -> Result<(), Memory>
     ensures { OnOk result (out.new.items ≡ out.old.items ++ lines_text entries.now) }
 {
     for entry in entries {
