@@ -1,6 +1,6 @@
 # make demo: makes an origin folder with a file of some MiB, runs a schedule over it and shows the replies
 # make bin: builds the proved programs into bin/
-# make bench: prints what the hot paths cost on this machine
+# make bench: prints what the hot paths cost on this machine, beside the same jobs in C
 
 PROGRAMS := xcache_replay xrdpfc_print
 PROGRAMS := $(filter $(PROGRAMS),$(notdir $(wildcard crates/*)))
@@ -17,8 +17,8 @@ bin/%: FORCE
 	@mkdir -p bin
 	@cd crates/$* && (rt run >/dev/null 2>&1 || true) && cp out/$* ../../bin/$*
 
-bench:
-	@cd crates/pfc_bench && rt run -- measure 2>/dev/null
+bench: bin/pfc_bench
+	sh examples/bench/compare.sh
 
 clean:
 	rm -rf bin crates/*/out

@@ -3,8 +3,10 @@
 #![tactic(auto)]
 
 mod budget;
+mod checksum;
 mod queue;
 mod sample;
+mod sets;
 
 use crate::sample::{Plan, show};
 use anyhow::{Result, bail};
@@ -20,8 +22,32 @@ fn plan(rt: &(impl Env + Alloc)) -> Result<Plan> {
     }
 }
 
+// The lines that compare with the baseline in C.
+fn show_kernels(rt: &HostRuntime, plan: Plan) -> Result<()> {
+    show(
+        rt,
+        plan,
+        "checksum of a buffer",
+        &checksum::of_buffer(rt, plan)?,
+    )?;
+    show(
+        rt,
+        plan,
+        "members of a set",
+        &sets::members(rt, plan)?,
+    )?;
+    show(
+        rt,
+        plan,
+        "first absent of a set",
+        &sets::first_absent(rt, plan)?,
+    )?;
+    Ok(())
+}
+
 fn main(rt: HostRuntime) -> Result<()> {
     let plan = plan(&rt)?;
+    show_kernels(&rt, plan)?;
     show(
         &rt,
         plan,
