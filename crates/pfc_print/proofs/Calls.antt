@@ -1,15 +1,15 @@
 -- What the words say of what is written.
-use Rattle.std.proofs.Common.{◌≡◌, ℕ, zero, suc, ◌+◌, ◌≤◌, Bool, true, false, ◌||◌, List, [], ◌∷◌, ◌++◌, length, map, take, codes, refl, sym, ap, subst, ◌∙◌, inl, inr, ◌⊎◌, arith}
-use Rattle.std.specs.Prelude.{IsTrue, All, IsSomeAnd, Some, None, Option, option_map, unwrap_or}
+use Rattle.std.proofs.Common.{◌≡◌, ℕ, zero, suc, ◌≤◌, Bool, true, false, ◌||◌, List, [], ◌∷◌, take, codes, refl, sym, ap, subst, ◌∙◌, inl, inr, ◌⊎◌, arith}
+use Rattle.std.specs.Prelude.{IsTrue, IsSomeAnd, Some, None, Option, option_map, unwrap_or}
 use Rattle.std.specs.Borrow.{Bor}
 use Rattle.std.proofs.lemmas.List.Elements.{All-tail}
 use Rattle.clap.specs.Words.{Row, all_of, fault_of, first_of, matches_of}
 use Rattle.pfc_base.specs.Cinfo.{Cinfo, IsCinfo}
 use Rattle.pfc_world.specs.Files.{file_at}
-use Rattle.pfc_world.specs.Texts.{Texts, Appends, AppendsFront}
+use Rattle.pfc_world.specs.Texts.{Texts}
 use Rattle.pfc_print.specs.Words.{print_command, line_of, AreTaken, is_verbose, says_true, files_in}
 use Rattle.pfc_print.specs.Text.{usage_text}
-use Rattle.pfc_print.specs.Shown.{read_limit, IsShown, AreShown, IsCut, IsPrinted, IsWhole, IsFault, IsUsage, IsMeant, AreCinfos, Writes, WritesFront}
+use Rattle.pfc_print.specs.Shown.{read_limit, IsShown, AreShown, IsCut, IsPrinted, IsWhole, IsFault, IsMeant, AreCinfos, Writes, WritesFront}
 use Rattle.pfc_print.proofs.Fronts.{names_of, front-nothing}
 
 pub files-named : (found : Option (Bor (List (Bor (List ℕ))))) (none files : Bor (List (Bor (List ℕ)))) → files ≡ unwrap_or found none → none.now ≡ [] →
@@ -22,9 +22,11 @@ pub as-asked : (words line : List (List ℕ)) (rows : List Row) (verbose : Bool)
     rows ≡ matches_of print_command line → verbose ≡ says_true (first_of (codes "verbose") rows) → files ≡ unwrap_or (all_of (codes "cinfo") rows) [] →
     AreTaken words × (verbose ≡ is_verbose words) × (files ≡ files_in words)
 as-asked words line rows verbose files e taken found v f =
-    let rows-are = found ∙ ap (matches_of print_command) e in
-    (sym (ap (fault_of print_command) e) ∙ taken, v ∙ ap (λ (r : List Row). says_true (first_of (codes "verbose") r)) rows-are,
-      f ∙ ap (λ (r : List Row). unwrap_or (all_of (codes "cinfo") r) []) rows-are)
+    let rows-are = found ∙ ap (matches_of print_command) e in (
+      sym (ap (fault_of print_command) e) ∙ taken,
+      v ∙ ap (λ (r : List Row). says_true (first_of (codes "verbose") r)) rows-are,
+      f ∙ ap (λ (r : List Row). unwrap_or (all_of (codes "cinfo") r) []) rows-are,
+    )
 
 pub whole-call : (told : Bool) (texts : Texts) (words : List (List ℕ)) (verbose : Bool) (names : List (List ℕ)) (d sink : Bool) (a b : List ℕ) →
     AreTaken words → verbose ≡ is_verbose words → names ≡ files_in words → Writes (λ text. AreShown told texts verbose names text d) sink a b → Writes (IsWhole told texts words d) sink a b

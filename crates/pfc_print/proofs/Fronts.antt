@@ -1,15 +1,13 @@
 -- What is written of files, one after the other.
 use Rattle.std.proofs.Common.{◌≡◌, ℕ, ◌+◌, ◌<◌, ◌≤◌, Bool, true, false, ◌||◌, List, [], ◌∷◌, ◌++◌, length, map, take, drop, get_or, refl, sym, ap, subst, ◌∙◌, inl, inr, append_assoc, take_all, arith}
-use Rattle.std.specs.Prelude.{IsTrue, All, IsSomeAnd, Some, None, Option, Result, Ok, Err, is_err, OnOk}
+use Rattle.std.specs.Prelude.{Result, Ok, Err, is_err, OnOk}
 use Rattle.std.specs.Borrow.{Bor}
 use Rattle.std.proofs.Math.Seq.{take-append-add}
 use Rattle.std.proofs.lemmas.List.{append-nil, map-append, map_more, drop_more, take-append-drop}
-use Rattle.pfc_base.specs.Cinfo.{Cinfo, IsCinfo, cinfo_in}
 use Rattle.pfc_world.specs.Counts.{HasCause}
-use Rattle.pfc_world.specs.Files.{file_at}
 use Rattle.pfc_world.specs.Texts.{Texts, Appends, AppendsFront}
 use Rattle.pfc_print.specs.Text.{fault_text}
-use Rattle.pfc_print.specs.Shown.{read_limit, IsShown, AreShown, IsFront, IsCut, IsPrinted, Writes, WritesFront, AreCinfos}
+use Rattle.pfc_print.specs.Shown.{IsShown, AreShown, IsCut, IsPrinted, Writes, WritesFront}
 
 -- the names behind references
 abbrev pub names_of : List (Bor (List ℕ)) → List (List ℕ)
@@ -39,9 +37,16 @@ pub AreShown-push : (told : Bool) (texts : Texts) (verbose : Bool) (names : List
     AreShown told texts verbose names text d → IsShown told texts verbose name more e → AreShown told texts verbose (names ++ name ∷ []) (text ++ more) (d || e)
 AreShown-push told texts verbose [] name text more d e shown next =
     (more, e, [], false, next, (refl, refl), ap (λ (l : List ℕ). l ++ more) shown.0 ∙ sym (append-nil more), ap (λ b. b || e) shown.1 ∙ or-none e)
-AreShown-push told texts verbose (n ∷ names) name text more d e (first, one, rest, others, this, tail, whole, flag) next =
-    (first, one, rest ++ more, others || e, this, AreShown-push told texts verbose names name rest more others e tail next,
-      ap (λ (l : List ℕ). l ++ more) whole ∙ append_assoc first rest more, ap (λ b. b || e) flag ∙ or-assoc one others e)
+AreShown-push told texts verbose (n ∷ names) name text more d e (first, one, rest, others, this, tail, whole, flag) next = (
+  first,
+  one,
+  rest ++ more,
+  others || e,
+  this,
+  AreShown-push told texts verbose names name rest more others e tail next,
+  ap (λ (l : List ℕ). l ++ more) whole ∙ append_assoc first rest more,
+  ap (λ b. b || e) flag ∙ or-assoc one others e,
+)
 
 -- ---- what comes to the sink
 
@@ -107,7 +112,7 @@ pub shown-next : (told : Bool) (texts : Texts) (verbose : Bool) (first longer : 
 shown-next told texts verbose first longer name more d e both sink a m b names flag (text, shown, written) next line = (
   text ++ more,
   subst (λ (l : List (List ℕ)). AreShown told texts verbose l (text ++ more) both) names
-    (subst (λ (v : Bool). AreShown told texts verbose (first ++ name ∷ []) (text ++ more) v) (sym flag) (AreShown-push told texts verbose first name text more d e shown next)),
+      (subst (λ (v : Bool). AreShown told texts verbose (first ++ name ∷ []) (text ++ more) v) (sym flag) (AreShown-push told texts verbose first name text more d e shown next)),
   more-after sink a m b text more written line,
 )
 

@@ -1,5 +1,5 @@
 -- Parts of a text, appended one by one.
-use Rattle.std.proofs.Common.{◌≡◌, ℕ, Bool, List, ◌++◌, ap, ◌∙◌, append_assoc}
+use Rattle.std.proofs.Common.{◌≡◌, ℕ, Bool, List, ◌++◌, ap, append_assoc}
 use Rattle.std.specs.List.{flat_map}
 use Rattle.pfc_base.specs.Cinfo.{Cinfo}
 use Rattle.pfc_print.specs.Text.{head_text, claims_text, record_text, cinfo_text}

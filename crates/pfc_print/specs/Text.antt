@@ -1,5 +1,5 @@
 -- What is printed of a file.
-use Rattle.std.specs.Prelude.{ℕ, Bool, true, false, List, [], ◌∷◌, ◌++◌, codes, length, count_by, Option, Some, None, if◌then◌else◌}
+use Rattle.std.specs.Prelude.{ℕ, Bool, true, false, List, [], ◌∷◌, ◌++◌, codes, length, count_by, Option, Some, None}
 use Rattle.std.specs.List.{flat_map}
 use Rattle.pfc_base.specs.Cinfo.{Record, Cinfo, cinfo_in}
 use Rattle.pfc_cinfo.specs.Cinfo.{claimed_bytes}

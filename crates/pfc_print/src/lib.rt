@@ -7,3 +7,6 @@ mod text;
 mod words;
 
 pub use printing::print;
+
+#[cfg(test)]
+mod tests;

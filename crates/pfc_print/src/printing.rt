@@ -98,12 +98,7 @@ fn print_files<H: Sources, S: Sink>(
 /// Writes the text of each cinfo file that the words name, and with the flag `-v` its runs. The answer is the program's
 /// exit status: 0 where each file is a cinfo, 1 for words that aren't of the form, 2 where a file is no cinfo, 3 where
 /// one can't be read, which ends the printing, 4 for a failed sink, 5 for want of memory.
-pub fn print<H: Sources, S: Sink>(
-    alloc: Global,
-    words: &[String],
-    host: &mut H,
-    out: &mut S,
-) -> u8
+pub fn print<H: Sources, S: Sink>(alloc: Global, words: &[String], host: &mut H, out: &mut S) -> u8
     // What was written is the text of each file in order.
     ensures done { result ≡ DONE → Writes (IsWhole H.told (H.texts host.old) (map string_bytes words.now) false) S.told (S.written out.old) (S.written out.new) }
     ensures damaged { result ≡ DAMAGED → Writes (IsWhole H.told (H.texts host.old) (map string_bytes words.now) true) S.told (S.written out.old) (S.written out.new) }

@@ -61,12 +61,7 @@ fn push_claims(
     push_word(out, b"\n")
 }
 
-fn push_head(
-    alloc: Global,
-    out: &mut Vec<u8>,
-    word: &[u8],
-    cinfo: &Cinfo,
-) -> Result<(), Memory>
+fn push_head(alloc: Global, out: &mut Vec<u8>, word: &[u8], cinfo: &Cinfo) -> Result<(), Memory>
     ensures { OnOk result (out.new.items ≡ out.old.items ++ head_text word.now cinfo.now) }
 {
     push_word(out, b"cinfo ")?;

@@ -24,12 +24,8 @@ fn command<'a>(alloc: Global) -> Result<Command<'a>, AllocError>
         .short('v')
         .long("verbose")
         .action(ArgAction::SetTrue);
-    let cinfo = Arg::new(alloc, "cinfo")
-        .required(true)
-        .num_args(1..);
-    Command::new(alloc, "xrdpfc_print")
-        .arg(verbose)?
-        .arg(cinfo)
+    let cinfo = Arg::new(alloc, "cinfo").required(true).num_args(1..);
+    Command::new(alloc, "xrdpfc_print").arg(verbose)?.arg(cinfo)
 }
 
 /// The words behind the program's name.

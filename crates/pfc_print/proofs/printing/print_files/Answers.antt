@@ -1,4 +1,4 @@
-use Rattle.std.proofs.Common.{◌≡◌, ◌+◌, ◌≤◌, ◌||◌, true, false, [], map, take, drop, get_or, List, ℕ, refl, sym, ap, subst, ◌∙◌, arith}
+use Rattle.std.proofs.Common.{◌≡◌, ◌+◌, ◌||◌, [], take, drop, get_or, sym, ap, subst, ◌∙◌, arith}
 use Rattle.pfc_world.specs.Texts.{Texts}
 use Rattle.pfc_print.specs.Shown.{IsShown}
 use Rattle.pfc_print.proofs.Fronts.{names_of, parts-at, parts-all, one-more, printed-so_far, printed-next, printed-fault, cut-there, shown-next, at_ok, count-grows}
@@ -48,7 +48,7 @@ loop-file-preserved g c =
     ] in
     record {
       written = shown-next _ _ c.args.verbose (names_of (take i files)) (names_of (take (i + 1) files)) _ c.in-Ok.shown.text.items c.loop-file.damaged bad c.if-damaged.damaged _ _ _ _
-        (one-more files i (record { ref_ptr = (0, 0); now = [] }) c.loop-file-test.true) flag c.loop-file.invariant.written shown line;
+          (one-more files i (record { ref_ptr = (0, 0); now = [] }) c.loop-file-test.true) flag c.loop-file.invariant.written shown line;
       texts = c.show.ensures.texts ∙ c.loop-file.invariant.texts;
       host_faults = omega (arith, c.loop-file.invariant.host_faults, c.in-Ok.ensures.cause);
       sink_faults = omega (arith, c.loop-file.invariant.sink_faults, count-grows _ _ c.write_text.result c.write_text.ensures.cause);

@@ -1,5 +1,4 @@
-use Rattle.std.proofs.Common.{◌≡◌, ◌≤◌, List, ℕ, map, take}
-use Rattle.pfc_world.specs.Texts.{Appends}
+use Rattle.std.proofs.Common.{◌≡◌, ◌≤◌, map, take}
 use Rattle.pfc_print.specs.Shown.{AreShown, Writes}
 use Rattle.pfc_print.proofs.printing.print_files.Given as goal
 

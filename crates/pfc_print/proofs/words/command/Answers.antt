@@ -1,7 +1,7 @@
-use Rattle.std.proofs.Common.{rules, ap, ap₂, refl, codes, Option, Some, None, IsSomeAnd, ◌≡◌, ◌∙◌}
+use Rattle.std.proofs.Common.{rules, ap, ap₂, Option, Some, None, IsSomeAnd, ◌≡◌, ◌∙◌}
 use Rattle.std.proofs.lemmas.Result.{IfOk-weaker}
 use Rattle.clap.specs.Lexer.{usize_max}
-use Rattle.clap.specs.Words.{App, Rule, app_of, new_app, rule_of, with_rule}
+use Rattle.clap.specs.Words.{rule_of, with_rule}
 use Rattle.pfc_print.specs.Words.{verbose_rule, cinfo_rule, print_command}
 use Rattle.pfc_print.proofs.words.command.Goals as goal
 

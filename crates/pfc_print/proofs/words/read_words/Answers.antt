@@ -1,5 +1,5 @@
-use Rattle.std.proofs.Common.{◌≡◌, true, List, [], map, refl, sym, ap, subst, inl, inr, ◌∙◌}
-use Rattle.clap.specs.Words.{App, Kinds, IsAmong, app_of, is_simple, is_simple_and_free, fault_of, kind_of, matches_of}
+use Rattle.std.proofs.Common.{◌≡◌, true, map, refl, sym, ap, subst, inl, inr, ◌∙◌}
+use Rattle.clap.specs.Words.{App, Kinds, IsAmong, is_simple, is_simple_and_free, fault_of, kind_of, matches_of}
 use Rattle.clap.proofs.OnLiterals.{clap_on_literals}
 use Rattle.pfc_print.specs.Words.{print_command}
 use Rattle.pfc_print.proofs.words.read_words.Goals as goal
