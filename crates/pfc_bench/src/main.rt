@@ -30,12 +30,7 @@ fn show_kernels(rt: &HostRuntime, plan: Plan) -> Result<()> {
         "checksum of a buffer",
         &checksum::of_buffer(rt, plan)?,
     )?;
-    show(
-        rt,
-        plan,
-        "members of a set",
-        &sets::members(rt, plan)?,
-    )?;
+    show(rt, plan, "members of a set", &sets::members(rt, plan)?)?;
     show(
         rt,
         plan,

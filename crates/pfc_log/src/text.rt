@@ -80,7 +80,12 @@ fn push_way(alloc: Global, out: &mut Vec<u8>, why: Way) -> Result<(), Memory>
 }
 
 /// Adds a word and numbers behind it, each after a blank. Where memory is refused, a part of the text may stand.
-pub fn push_line(alloc: Global, out: &mut Vec<u8>, word: &[u8], numbers: &[u64]) -> Result<(), Memory>
+pub fn push_line(
+    alloc: Global,
+    out: &mut Vec<u8>,
+    word: &[u8],
+    numbers: &[u64],
+) -> Result<(), Memory>
     ensures { OnOk result (out.new.items ≡ out.old.items ++ word.now ++ numbers_text numbers.now) }
 {
     push_word(out, word)?;
