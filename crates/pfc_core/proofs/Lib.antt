@@ -1,0 +1,9 @@
+mod Entries
+mod Numbered
+mod Shelves
+mod Tied
+mod Kept
+mod Weights
+mod Outs
+mod Begun
+mod Leaving

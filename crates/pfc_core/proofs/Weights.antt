@@ -1,0 +1,112 @@
+-- The marks of what is out, weighed.
+use Rattle.std.proofs.Common.{◌≡◌, ◌≢◌, ℕ, zero, suc, ◌+◌, ◌<◌, ◌≤◌, List, [], ◌∷◌, ◌++◌, length, map, sym, refl, ap, ◌∙◌, subst, arith, Bool, true, false, Option, Some, None, ◌==◌, ◌&&◌, tests, eq-eqb}
+use Rattle.std.specs.Prelude.{sum_by, count_by, flat_map, if◌then◌else◌}
+use Rattle.std.specs.Cmp.Lexicographic.{pointwise}
+use Rattle.std.proofs.lemmas.Bool.Decides.{nat_tests}
+use Rattle.std.proofs.lemmas.List.Sums.{sum_by-cons, sum_by-append}
+use Rattle.pfc_core.specs.declared.slot.Slot.{Slot}
+use Rattle.pfc_core.specs.declared.held.Held.{Held}
+use Rattle.pfc_core.specs.Held.{is_held}
+use Rattle.pfc_core.specs.Marks.{Kind, StayKind, ReadingKind, TicketKind, PinKind, JobKind, kind_code, Mark, same, sees, listed}
+use Rattle.pfc_core.specs.Slots.{slot_of, IsSingle}
+use Rattle.pfc_core.specs.Out.{Home, mark_in, flight_of, flights_at, out_of}
+use Rattle.pfc_core.proofs.Entries.{by_bool, sum_map}
+use Rattle.pfc_core.proofs.Numbered.{held_self, held_is}
+
+sum_flat : {X Y : Type 0} (w : Y → ℕ) (f : X → List Y) (xs : List X) → sum_by w (flat_map f xs) ≡ sum_by (λ x. sum_by w (f x)) xs
+sum_flat w f [] = refl
+sum_flat w f (x ∷ xs) = sum_by-append w (f x) (flat_map f xs) ∙ ap (λ n. sum_by w (f x) + n) (sum_flat w f xs) ∙ sym (sum_by-cons (λ y. sum_by w (f y)) x xs)
+
+-- what the tokens of one kind weigh
+abbrev pub kind_weight : Kind → Home → (Mark → ℕ) → List Held → ℕ
+kind_weight kind h w ps = sum_by (λ p. w (mark_in kind h p)) ps
+
+abbrev pub slot_weight : Home → (Mark → ℕ) → Slot → ℕ
+slot_weight h w s = sum_by w (flights_at h s)
+
+-- all that is out, weighed kind by kind
+pub weigh_out : (w : Mark → ℕ) (h : Home) (stays readings pins : List Held) (slots : List Slot) → sum_by w (out_of h stays readings pins slots) ≡ kind_weight StayKind h w stays + kind_weight ReadingKind h w readings + kind_weight PinKind h w pins + sum_by (slot_weight h w) slots
+weigh_out w h stays readings pins slots =
+    let a = sum_by-append w (map (mark_in StayKind h) stays ++ map (mark_in ReadingKind h) readings ++ map (mark_in PinKind h) pins) (flat_map (flights_at h) slots) in
+    let b = sum_by-append w (map (mark_in StayKind h) stays ++ map (mark_in ReadingKind h) readings) (map (mark_in PinKind h) pins) in
+    let c = sum_by-append w (map (mark_in StayKind h) stays) (map (mark_in ReadingKind h) readings) in
+    let d = sum_map w (mark_in StayKind h) stays in
+    let e = sum_map w (mark_in ReadingKind h) readings in
+    let f = sum_map w (mark_in PinKind h) pins in
+    let g = sum_flat w (flights_at h) slots in
+    omega (arith, a, b, c, d, e, f, g)
+
+path_is : (a b : List ℕ) → pointwise ◌==◌ a b ≡ true → a ≡ b
+path_is [] [] h = refl
+path_is [] (y ∷ ys) h = absurd cc
+path_is (x ∷ xs) [] h = absurd cc
+path_is (x ∷ xs) (y ∷ ys) h =
+    let first : x ≡ y = grind (arith, nat_tests) in let rest : pointwise ◌==◌ xs ys ≡ true = grind (arith, nat_tests) in let tail = path_is xs ys rest in cc
+
+pub path_self : (a : List ℕ) → pointwise ◌==◌ a a ≡ true
+path_self [] = refl
+path_self (x ∷ xs) = let rest = path_self xs in grind (arith, nat_tests)
+
+-- marks that are one agree in each part
+pub same_kind : (m x : Mark) → same m x ≡ true → kind_code m.kind ≡ kind_code x.kind
+same_kind m x h = grind (arith, nat_tests)
+
+pub same_instance : (m x : Mark) → same m x ≡ true → m.instance ≡ x.instance
+same_instance m x h = grind (arith, nat_tests)
+
+pub same_path : (m x : Mark) → same m x ≡ true → m.path ≡ x.path
+same_path m x h = let p : pointwise ◌==◌ m.path x.path ≡ true = grind (arith, nat_tests) in path_is m.path x.path p
+
+pub same_size : (m x : Mark) → same m x ≡ true → m.size ≡ x.size
+same_size m x h = grind (arith, nat_tests)
+
+pub same_block_size : (m x : Mark) → same m x ≡ true → m.block_size ≡ x.block_size
+same_block_size m x h = grind (arith, nat_tests)
+
+pub same_number : (m x : Mark) → same m x ≡ true → m.number ≡ x.number
+same_number m x h = grind (arith, nat_tests)
+
+pub same_client : (m x : Mark) → same m x ≡ true → m.client ≡ x.client
+same_client m x h = grind (arith, nat_tests)
+
+pub same_block : (m x : Mark) → same m x ≡ true → m.block ≡ x.block
+same_block m x h = grind (arith, nat_tests)
+
+pub same_flight : (m x : Mark) → same m x ≡ true → m.flight ≡ x.flight
+same_flight m x h = grind (arith, nat_tests)
+
+pub same_self : (m : Mark) → same m m ≡ true
+same_self m = let p = path_self m.path in grind (arith, nat_tests)
+
+both_ways : (a b : Bool) → (a ≡ true → b ≡ true) → (b ≡ true → a ≡ true) → a ≡ b
+both_ways true b f g = sym (f refl)
+both_ways false true f g = g refl
+both_ways false false f g = refl
+
+-- in one core the marks of one kind are told apart by what is kept
+pub same_held : (kind : Kind) (h : Home) (p q : Held) → same (mark_in kind h p) (mark_in kind h q) ≡ is_held p q
+same_held kind h p q = both_ways (same (mark_in kind h p) (mark_in kind h q)) (is_held p q)
+    (λ yes.
+    let a = same_number (mark_in kind h p) (mark_in kind h q) yes in let b = same_client (mark_in kind h p) (mark_in kind h q) yes in
+    let c = same_block (mark_in kind h p) (mark_in kind h q) yes in let d = same_flight (mark_in kind h p) (mark_in kind h q) yes in
+    grind (arith, eq-eqb))
+    (λ yes. subst (λ (r : Held). same (mark_in kind h p) (mark_in kind h r) ≡ true) (sym (held_is p q yes)) (same_self (mark_in kind h p)))
+
+sum_same : {X : Type 0} (f g : X → ℕ) (xs : List X) → ((x : X) → f x ≡ g x) → sum_by f xs ≡ sum_by g xs
+sum_same f g [] h = refl
+sum_same f g (x ∷ xs) h = let r = sum_same f g xs h in let e = h x in omega (arith, sum_by-cons f x xs, sum_by-cons g x xs, r, e)
+
+pub sum_zero : {X : Type 0} (f : X → ℕ) (xs : List X) → ((x : X) → f x ≡ 0) → sum_by f xs ≡ 0
+sum_zero f [] h = refl
+sum_zero f (x ∷ xs) h = let r = sum_zero f xs h in let e = h x in omega (arith, sum_by-cons f x xs, r, e)
+
+-- how often a mark is among those of its kind
+pub listed_in : (kind : Kind) (h : Home) (p : Held) (ps : List Held) → kind_weight kind h (sees (mark_in kind h p)) ps ≡ count_by (is_held p) ps
+listed_in kind h p ps = sum_same (λ q. sees (mark_in kind h p) (mark_in kind h q)) (λ q. if is_held p q then 1 else 0) ps (λ q. ap {B = ℕ} (λ (b : Bool). if b then 1 else 0) (same_held kind h p q))
+
+pub unseen : (m x : Mark) → (same m x ≡ true → ⊥) → sees m x ≡ 0
+unseen m x apart = by_bool (same m x) (λ yes. absurd (apart yes)) (λ off. ap {B = ℕ} (λ (b : Bool). if b then 1 else 0) off)
+
+-- a mark is not among those of another kind
+pub other_kind : (kind other : Kind) (h : Home) (p : Held) (ps : List Held) → (kind_code kind ≡ kind_code other → ⊥) → kind_weight other h (sees (mark_in kind h p)) ps ≡ 0
+other_kind kind other h p ps apart = sum_zero (λ q. sees (mark_in kind h p) (mark_in other h q)) ps (λ q. unseen (mark_in kind h p) (mark_in other h q) (λ yes. apart (same_kind (mark_in kind h p) (mark_in other h q) yes)))

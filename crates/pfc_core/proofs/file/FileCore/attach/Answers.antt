@@ -1,0 +1,34 @@
+use Rattle.std.proofs.Common.{refl, ◌≡◌, ◌∙◌, sym, ap, subst, rules, arith, List, [], ◌∷◌, ◌++◌, length, true, false, Bool, ◌<◌, ◌≤◌, ℕ}
+use Rattle.std.specs.Prelude.{count_by, sum_by}
+use Rattle.pfc_log.specs.declared.entry.Entry.TheVariants.{Opened, Closed}
+use Rattle.pfc_core.specs.declared.held.Held.{Held}
+use Rattle.pfc_core.specs.Marks.{Mark, StayKind, ReadingKind, Gains, Loses, listed}
+use Rattle.pfc_core.specs.Held.{Takes, Puts, is_held}
+use Rattle.pfc_core.specs.Out.{Home, mark_in}
+use Rattle.pfc_core.specs.Tags.{home_in, IsAt, mark_of}
+use Rattle.pfc_core.specs.Homes.{home_of}
+use Rattle.pfc_core.specs.View.{CoreView}
+use Rattle.pfc_core.specs.Kept.{view_of}
+use Rattle.pfc_core.proofs.Kept.{quiet_kept, in_open, in_close, close_row, in_more, room_at_most, puts_length, takes_length}
+use Rattle.pfc_core.proofs.Outs.{gains_stay, loses_stay, unlisted_stay, gains_reading, unlisted_elsewhere, mark_at}
+use Rattle.pfc_core.proofs.file.FileCore.attach.Goals as goal
+
+pub invariant_of-self-2 : goal.invariant_of-self-2
+invariant_of-self-2 g c = let s = c.self.inside in let was = c.self.invariant in
+    let put : Puts s.stays.list c.add-held.result c.add-held.new.self.list = subst (λ (l : List Held). Puts l c.add-held.result c.add-held.new.self.list) c.make_room.ensures.list c.add-held.ensures.added in
+    let room = c.in_ok-make_room.ensures.room in record {
+      held = rw (c.push.ensures, c.make_room.ensures.first, c.make_room.ensures.entries) (quiet_kept _ _ _ _ _ (Opened c.args.n) was.held tt refl refl refl refl (λ i q. refl) (λ u. (refl, refl)) (λ i m u. (refl, refl)));
+      guests = rw (c.push.ensures, c.make_room.ensures.entries) (in_open _ c.args.n c.add-held.result _ _ was.guests put c.add-held.ensures.client);
+      room = rw c.push.ensures (omega (arith, room, room_at_most s.shelf.slots, puts_length _ _ _ put));
+      sized = rw (c.push.ensures, c.make_room.ensures.first) was.sized;
+    }
+
+pub returns-clause-ok : goal.returns-clause-ok
+returns-clause-ok g c = let s = c.self.inside in
+    let put : Puts s.stays.list c.add-held.result c.add-held.new.self.list = subst (λ (l : List Held). Puts l c.add-held.result c.add-held.new.self.list) c.make_room.ensures.list c.add-held.ensures.added in
+    let at = c.tag_of.ensures.at in
+    rw (← c.self.view_is) (record {
+      stays = record { kind_is = refl; instance_is = ap (λ (h : Home). h.instance) at; path_is = ap (λ (h : Home). h.path) at; size_is = ap (λ (h : Home). h.size) at; block_size_is = ap (λ (h : Home). h.block_size) at; client_is = ap (λ (p : Held). p.client) c.tag_of.ensures.held ∙ c.add-held.ensures.client };
+      gains = rw (mark_at StayKind _ _ _ _ at c.tag_of.ensures.held) (gains_stay (home_of s.instance s.shelf) s.readings.list s.pins.list s.shelf.slots c.add-held.result s.stays.list c.add-held.new.self.list put);
+      enters = rw (c.push.ensures, c.make_room.ensures.first, c.make_room.ensures.entries) refl;
+    })

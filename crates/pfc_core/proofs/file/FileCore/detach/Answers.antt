@@ -1,0 +1,48 @@
+use Rattle.std.proofs.Common.{refl, ◌≡◌, ◌∙◌, sym, ap, subst, rules, arith, List, [], ◌∷◌, ◌++◌, length, true, false, Bool, ◌<◌, ◌≤◌, ℕ}
+use Rattle.std.specs.Prelude.{count_by, sum_by}
+use Rattle.pfc_log.specs.declared.entry.Entry.TheVariants.{Opened, Closed}
+use Rattle.pfc_core.specs.declared.held.Held.{Held}
+use Rattle.pfc_core.specs.Marks.{Mark, StayKind, ReadingKind, Gains, Loses, listed}
+use Rattle.pfc_core.specs.Held.{Takes, Puts, is_held}
+use Rattle.pfc_core.specs.Out.{Home, mark_in}
+use Rattle.pfc_core.specs.Tags.{home_in, IsAt, mark_of}
+use Rattle.pfc_core.specs.Homes.{home_of}
+use Rattle.pfc_core.specs.View.{CoreView}
+use Rattle.pfc_core.specs.Kept.{view_of}
+use Rattle.pfc_core.proofs.Kept.{quiet_kept, in_open, in_close, close_row, in_more, room_at_most, puts_length, takes_length}
+use Rattle.pfc_core.proofs.Outs.{gains_stay, loses_stay, unlisted_stay, gains_reading, unlisted_elsewhere, mark_at, at_home}
+use Rattle.pfc_core.proofs.file.FileCore.detach.Goals as goal
+
+pub returns-then-not-is_of-clause-strayed : goal.returns-then-not-is_of-clause-strayed
+returns-then-not-is_of-clause-strayed g c = let s = c.self.inside in
+    rw (← c.self.view_is, ← c.stay.view_is) (record {
+      back = refl;
+      why_is = c.stranger-why.ensures;
+      unchanged = refl;
+      unlisted = unlisted_elsewhere StayKind (home_in c.stay.inside.tag) (home_of s.instance s.shelf) c.stay.inside.tag.held s.stays.list s.readings.list s.pins.list s.shelf.slots c.if-not-is_of.ensures;
+    })
+
+pub returns-then-not-take-clause-strayed : goal.returns-then-not-take-clause-strayed
+returns-then-not-take-clause-strayed g c = let s = c.self.inside in let at = c.if-not-is_of.ensures in
+    rw (← c.self.view_is, ← c.stay.view_is) (record {
+      back = refl;
+      why_is = c.stranger-why.ensures;
+      unchanged = rw (c.if-not-take.ensures.same refl) refl;
+      unlisted = at_home StayKind (home_in c.stay.inside.tag) (home_of s.instance s.shelf) c.stay.inside.tag.held (view_of s).out at (unlisted_stay (home_of s.instance s.shelf) c.stay.inside.tag.held s.stays.list s.readings.list s.pins.list s.shelf.slots (c.if-not-take.ensures.no refl));
+    })
+
+pub invariant_of-self-2 : goal.invariant_of-self-2
+invariant_of-self-2 g c = let s = c.self.inside in let was = c.self.invariant in let p = c.stay.inside.tag.held in
+    let take : Takes p s.stays.list c.take.new.self.list = c.if-not-take.ensures.yes refl in record {
+      held = rw c.push.ensures (quiet_kept _ _ _ _ _ (Closed p.client) was.held (close_row _ p _ _ was.guests take) refl refl refl refl (λ i q. refl) (λ u. (refl, refl)) (λ i m u. (refl, refl)));
+      guests = rw c.push.ensures (in_close _ p _ _ was.guests take);
+      room = rw c.push.ensures (omega (arith, was.room, takes_length _ _ _ take));
+      sized = rw c.push.ensures was.sized;
+    }
+
+pub returns-clause-ok : goal.returns-clause-ok
+returns-clause-ok g c = let s = c.self.inside in let at = c.if-not-is_of.ensures in
+    rw (← c.self.view_is, ← c.stay.view_is) (record {
+      loses = rw (mark_at StayKind (home_in c.stay.inside.tag) _ c.stay.inside.tag.held _ at refl) (loses_stay (home_of s.instance s.shelf) s.readings.list s.pins.list s.shelf.slots c.stay.inside.tag.held s.stays.list c.take.new.self.list (c.if-not-take.ensures.yes refl));
+      enters = rw c.push.ensures refl;
+    })

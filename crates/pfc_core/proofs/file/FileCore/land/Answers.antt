@@ -1,0 +1,55 @@
+use Rattle.std.proofs.Common.{refl, ◌≡◌, ◌≢◌, ◌∙◌, sym, ap, subst, rules, arith, List, [], ◌∷◌, ◌++◌, length, true, false, Bool, ◌<◌, ◌≤◌, ℕ, Option, Some, None}
+use Rattle.std.specs.Prelude.{count_by, sum_by}
+use Rattle.pfc_core.specs.declared.held.Held.{Held}
+use Rattle.pfc_core.specs.declared.slot.Slot.{Slot}
+use Rattle.pfc_core.specs.Marks.{Mark, TicketKind, JobKind, PinKind, Gains, Loses, listed}
+use Rattle.pfc_core.specs.Held.{Takes, Puts, is_held}
+use Rattle.pfc_core.specs.Slots.{slot_of, Changes, ShelfView, room_of, landed_slot, done_slot, bumped, lowered, fresh_slot}
+use Rattle.pfc_core.specs.Out.{Home, mark_in, flight_of, out_of}
+use Rattle.pfc_core.specs.Tags.{home_in, IsAt, mark_of}
+use Rattle.pfc_core.specs.Homes.{home_of}
+use Rattle.pfc_core.specs.View.{CoreView}
+use Rattle.pfc_core.specs.Kept.{view_of}
+use Rattle.pfc_core.proofs.Kept.{land_kept, in_more, room_flying}
+use Rattle.pfc_core.proofs.Outs.{land_swaps, swaps_at, unlisted_ticket, unlisted_elsewhere, at_home}
+use Rattle.pfc_core.proofs.file.FileCore.land.Goals as goal
+
+pub returns-then-not-is_of-clause-strayed : goal.returns-then-not-is_of-clause-strayed
+returns-then-not-is_of-clause-strayed g c = let s = c.self.inside in
+    rw (← c.self.view_is, ← c.ticket.view_is) (record {
+      back = refl;
+      why_is = c.stranger-why.ensures;
+      unchanged = refl;
+      unlisted = unlisted_elsewhere TicketKind (home_in c.ticket.inside.tag) (home_of s.instance s.shelf) c.ticket.inside.tag.held s.stays.list s.readings.list s.pins.list s.shelf.slots c.if-not-is_of.ensures;
+    })
+
+pub returns-in_default-clause-strayed : goal.returns-in_default-clause-strayed
+returns-in_default-clause-strayed g c = let s = c.self.inside in let p = c.ticket.inside.tag.held in let at = c.if-not-is_of.ensures in
+    let none : (x : Slot) → slot_of p.block s.shelf.slots ≡ Some x → x.landed ≡ false → flight_of x ≡ p → ⊥ = search rules in
+    rw (← c.self.view_is, ← c.ticket.view_is) (record {
+      back = refl;
+      why_is = c.stranger-why.ensures;
+      unchanged = refl;
+      unlisted = at_home TicketKind (home_in c.ticket.inside.tag) (home_of s.instance s.shelf) p (view_of s).out at (unlisted_ticket (home_of s.instance s.shelf) p s.stays.list s.readings.list s.pins.list s.shelf.slots c.find_flying.ensures.single none);
+    })
+
+pub invariant_of-self : goal.invariant_of-self
+invariant_of-self g c = let s = c.self.inside in let was = c.self.invariant in let x = c.in-Some.slot in let p = c.ticket.inside.tag.held in
+    let got : (slot_of p.block s.shelf.slots ≡ Some x) × (x.landed ≡ false) × (flight_of x ≡ p) = search rules in
+    let there : slot_of x.block s.shelf.slots ≡ Some x = subst (λ (k : ℕ). slot_of k s.shelf.slots ≡ Some x) (sym (ap (λ (q : Held). q.block) got.2)) got.0 in
+    let moved : Changes x.block (Some x) (Some (landed_slot x)) s.shelf c.land.new.self = subst (λ (y : Slot). Changes y.block (Some x) (Some y) s.shelf c.land.new.self) c.landed.ensures c.land.ensures in record {
+      held = rw c.push.ensures (land_kept _ _ _ s.shelf.slots c.land.new.self.slots s.pins.list x.block x.ticket x was.held there moved.at got.1 refl);
+      guests = rw c.push.ensures (in_more _ _ _ was.guests (λ n. (refl, refl)));
+      room = rw c.push.ensures (omega (arith, was.room, moved.weighs room_of, room_flying x got.1));
+      sized = rw (c.push.ensures, moved.size, moved.block_size) was.sized;
+    }
+
+pub returns-clause-ok : goal.returns-clause-ok
+returns-clause-ok g c = let s = c.self.inside in let x = c.in-Some.slot in let p = c.ticket.inside.tag.held in let at = c.if-not-is_of.ensures in
+    let got : (slot_of p.block s.shelf.slots ≡ Some x) × (x.landed ≡ false) × (flight_of x ≡ p) = search rules in
+    let moved : Changes x.block (Some x) (Some (landed_slot x)) s.shelf c.land.new.self = subst (λ (y : Slot). Changes y.block (Some x) (Some y) s.shelf c.land.new.self) c.landed.ensures c.land.ensures in
+    rw (← c.self.view_is, ← c.ticket.view_is, moved.path, moved.size, moved.block_size) (record {
+      job_is = refl;
+      swaps = swaps_at (home_in c.ticket.inside.tag) (home_of s.instance s.shelf) p (flight_of x) (view_of s).out (out_of (home_of s.instance s.shelf) s.stays.list s.readings.list s.pins.list c.land.new.self.slots) at (sym got.2) (land_swaps (home_of s.instance s.shelf) s.stays.list s.readings.list s.pins.list x s.shelf c.land.new.self moved got.1);
+      enters = rw (c.push.ensures, ap (λ (q : Held). q.number) got.2) refl;
+    })

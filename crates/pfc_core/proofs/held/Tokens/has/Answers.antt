@@ -1,0 +1,23 @@
+use Rattle.std.proofs.Common.{rules, ◌≡◌, ◌<◌, ℕ, Bool, true, false, Option, Some, None, IsTrue, ap, sym, ◌∙◌, subst, nat_eq, arith}
+use Rattle.std.specs.Map.{lookup}
+use Rattle.pfc_core.specs.declared.held.Held.{Held}
+use Rattle.pfc_core.specs.Held.{is_held}
+use Rattle.pfc_core.proofs.Numbered.{held_unlisted, held_absent, held_apart, held_listed, held_is}
+use Rattle.pfc_core.proofs.held.Tokens.has.Goals as goal
+
+pub returns-in_default-clause-no : goal.returns-in_default-clause-no
+returns-in_default-clause-no c =
+    let none : lookup (nat_eq c.args.held.number) c.self.inside.held.entries ≡ None = search rules in
+    rw (← c.self.view_is) (λ _. held_unlisted _ c.args.held c.self.invariant.unique c.self.invariant.numbered (held_absent _ c.args.held none))
+
+pub returns-then-is_same-clause-yes : goal.returns-then-is_same-clause-yes
+returns-then-is_same-clause-yes c =
+    let found : lookup (nat_eq c.args.held.number) c.self.inside.held.entries ≡ Some c.in-Some.found.now = search rules in
+    let same : is_held c.args.held c.in-Some.found.now ≡ true = search rules in
+    rw (← c.self.view_is) (λ _. held_listed _ c.args.held (found ∙ ap (λ (p : Held). Some p) (held_is c.args.held c.in-Some.found.now same)))
+
+pub returns-clause-no : goal.returns-clause-no
+returns-clause-no c =
+    let found : lookup (nat_eq c.args.held.number) c.self.inside.held.entries ≡ Some c.in-Some.found.now = search rules in
+    let apart : is_held c.args.held c.in-Some.found.now ≡ false = search rules in
+    rw (← c.self.view_is) (λ _. held_unlisted _ c.args.held c.self.invariant.unique c.self.invariant.numbered (held_apart _ c.args.held c.in-Some.found.now found apart))

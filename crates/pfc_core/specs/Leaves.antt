@@ -1,0 +1,47 @@
+-- Whether a block leaves memory with a pin.
+use Rattle.std.specs.Prelude.{ℕ, ◌+◌, Bool, true, false, ◌==◌, ◌&&◌, List, Option, Some, None, sum_by, count_by}
+use Rattle.pfc_log.specs.declared.entry.Entry.{Entry}
+use Rattle.pfc_log.specs.declared.entry.DropCause.{DropCause}
+use Rattle.pfc_log.specs.declared.entry.DropCause.TheVariants as cause
+use Rattle.pfc_log.specs.Views.{Place, Away, Flying, Here, place}
+use Rattle.pfc_core.specs.declared.slot.Slot.{Slot}
+use Rattle.pfc_core.specs.declared.held.Held.{Held}
+use Rattle.pfc_core.specs.Marks.{Mark, PinKind, kind_code}
+use Rattle.pfc_core.specs.Pins.{on}
+
+-- the block is in flight t
+abbrev pub is_flying_at : ℕ → Place → Bool
+is_flying_at t (Flying u n) = u == t
+is_flying_at t _ = false
+
+-- the block is in memory, from flight t
+abbrev pub is_here_at : ℕ → Place → Bool
+is_here_at t (Here u d) = u == t
+is_here_at t _ = false
+
+-- and was written or dropped since
+abbrev pub is_done_at : ℕ → Place → Bool
+is_done_at t (Here u d) = u == t && d
+is_done_at t _ = false
+
+-- a pin on flight t of block i
+abbrev pub is_pin : ℕ → ℕ → Mark → Bool
+is_pin i t m = kind_code m.kind == kind_code PinKind && m.block == i && m.flight == t
+
+-- how many pins on flight t of block i are out
+abbrev pub pins_on : ℕ → ℕ → List Mark → ℕ
+pins_on i t out = count_by (is_pin i t) out
+
+-- flight t of block i is done, and one pin is left on it
+abbrev pub leaves : List Entry → List Mark → ℕ → ℕ → Bool
+leaves es out i t = is_done_at t (place i es) && pins_on i t out == 1
+
+abbrev pub leaves_slot : ℕ → Option Slot → Bool
+leaves_slot t None = false
+leaves_slot t (Some s) = s.ticket == t && s.landed && s.done && s.pins == 1
+
+-- the job isn't dropped for a store that is frozen
+abbrev pub IsOtherCause : DropCause → Type 0
+IsOtherCause cause.Frozen = ⊥
+IsOtherCause (cause.Full capacity) = Unit {0}
+IsOtherCause cause.There = Unit {0}

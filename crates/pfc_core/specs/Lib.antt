@@ -1,0 +1,16 @@
+pub mod Marks
+pub mod Held
+pub mod Tokens
+pub mod Slots
+pub mod Shelf
+pub mod Pins
+pub mod Tied
+pub mod Out
+pub mod Homes
+pub mod Tags
+pub mod Blocks
+pub mod View
+pub mod Leaves
+pub mod Kept
+pub mod Calls
+pub mod New

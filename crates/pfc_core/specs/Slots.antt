@@ -1,0 +1,65 @@
+-- The slots of a file's blocks.
+use Rattle.std.specs.Prelude.{◌≡◌, ℕ, ◌+◌, ◌-◌, Bool, true, false, ◌==◌, if◌then◌else◌, List, [], ◌∷◌, Option, Some, None, sum_by}
+use Rattle.pfc_log.specs.Views.{Place, Away, Flying, Here}
+use Rattle.pfc_core.specs.declared.slot.Slot.{Slot}
+
+-- the slots of one file
+pub record ShelfView : Type 0 where
+  pub path : List ℕ
+  pub size : ℕ
+  pub block_size : ℕ
+  pub slots : List Slot
+
+-- the slot of block i
+abbrev pub slot_of : ℕ → List Slot → Option Slot
+slot_of i [] = None
+slot_of i (s ∷ ss) = if s.block == i then Some s else slot_of i ss
+
+-- no two are of one block
+abbrev pub IsSingle : List Slot → Type 0
+IsSingle [] = Unit {0}
+IsSingle (s ∷ ss) = (slot_of s.block ss ≡ None) × IsSingle ss
+
+abbrev pub weight_in : (Slot → ℕ) → Option Slot → ℕ
+weight_in w None = 0
+weight_in w (Some s) = w s
+
+-- block b has one slot in place of another, and nothing else changes
+pub record Changes (b : ℕ) (was is : Option Slot) (old new : ShelfView) : Type 0 where
+  pub path : new.path ≡ old.path
+  pub size : new.size ≡ old.size
+  pub block_size : new.block_size ≡ old.block_size
+  pub at : (i : ℕ) → slot_of i new.slots ≡ (if b == i then is else slot_of i old.slots)
+  pub weighs : (w : Slot → ℕ) → sum_by w new.slots + weight_in w was ≡ sum_by w old.slots + weight_in w is
+
+-- where the slot's block is
+abbrev pub place_of : Slot → Place
+place_of s = if s.landed then Here s.ticket s.done else Flying s.ticket s.client
+
+abbrev pub ticket_in : Option Slot → Option ℕ
+ticket_in None = None
+ticket_in (Some s) = Some s.ticket
+
+-- how many entries a slot may still cause
+abbrev pub room_of : Slot → ℕ
+room_of s = if s.landed then (if s.done then 1 else 2) else 3
+
+-- a block that goes into flight, with the pin of who began it
+abbrev pub fresh_slot : (b t n : ℕ) → Slot
+fresh_slot b t n = record { block = b; ticket = t; client = n; landed = false; done = false; pins = 1 }
+
+-- it landed
+abbrev pub landed_slot : Slot → Slot
+landed_slot s = record s { landed = true; done = false }
+
+-- its job ended
+abbrev pub done_slot : Slot → Slot
+done_slot s = record s { done = true }
+
+-- one pin more
+abbrev pub bumped : Slot → Slot
+bumped s = record s { pins = s.pins + 1 }
+
+-- one pin less
+abbrev pub lowered : Slot → Slot
+lowered s = record s { pins = s.pins - 1 }

@@ -1,0 +1,12 @@
+//! The core of one opening of one file: which blocks are in flight or in memory, who waits for them, and the log of it.
+#![tactic(auto)]
+
+mod file;
+mod held;
+mod shelf;
+mod slot;
+mod tag;
+mod token;
+
+pub use file::{FileCore, Retired};
+pub use token::{Decision, Job, Pin, Reading, Stay, Strayed, Ticket, Twin};
