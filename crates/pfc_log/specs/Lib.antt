@@ -7,3 +7,4 @@ pub mod Log
 pub mod Runs
 pub mod Text
 pub mod Positions
+pub mod Tallies

@@ -7,7 +7,8 @@ ghost use Rattle.pfc_log.specs.declared.start.Start.{Start};
 ghost use Rattle.pfc_log.specs.declared.start.Start.TheVariants as start;
 ghost use Rattle.pfc_log.specs.declared.entry.Uncached.{Uncached};
 ghost use Rattle.pfc_log.specs.Views.{place, Flying, Here, is_ended, kept, durable, started, times, is_lost, is_asked, is_device, is_disk_hit};
-ghost use Rattle.pfc_log.specs.Owners.{owner};
+ghost use Rattle.pfc_log.specs.Owners.{owner, owners};
+ghost use Rattle.pfc_log.specs.Tallies.{tally, together, gain};
 ghost use Rattle.pfc_log.specs.Positions.{StandsAt, IsOutSince, IsInSince, IsDoneSince, IsBegun, EndsBetween, IsWritten, IsSynced, IsOfUncached, IsOfOff};
 ghost use Rattle.pfc_log.specs.Lawful.{Lawful, Row};
 
@@ -77,4 +78,10 @@ pub fn uncached_logs()
         StandsAt es p e → IsOfUncached why e }
     ensures later { (first : Start) (es : List Entry) → Lawful first es → (p q : ℕ) (e : Entry) →
         StandsAt es p WrittenOff → p < q → StandsAt es q e → IsOfOff e }
+{}
+
+/// A client's tally grows with the log, by what each entry adds to it.
+#[tactic(auto, using(crate::proofs::Tallied::tally_more))]
+pub fn tallies_grow()
+    ensures { (n : ℕ) (es : List Entry) (x : Entry) → tally n (es ++ x ∷ []) ≡ together (tally n es) (gain n (owners es) x) }
 {}

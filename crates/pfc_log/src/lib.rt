@@ -15,7 +15,7 @@ pub use counts::Counts;
 pub use entry::{DropCause, Entry, Fell, Mark, Served, Spot, Stranger, Uncached, Way};
 pub use laws::{
     direct_reads_are_bounded, lawful_growth, one_flight_at_a_time, owners_stay, places_read_back,
-    sets_read_back, tickets_are_once, uncached_logs,
+    sets_read_back, tallies_grow, tickets_are_once, uncached_logs,
 };
 pub use log::FileLog;
 pub use runs::{push_runs, push_set};
