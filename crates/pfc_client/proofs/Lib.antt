@@ -1,3 +1,4 @@
 pub mod Walks
 pub mod Sessions
 pub mod Permitting
+pub mod Telling

@@ -1,6 +1,6 @@
 -- What a session has open, seen as the table of its files.
-use Rattle.std.proofs.Common.{◌≡◌, ℕ, zero, suc, List, [], ◌∷◌, map, refl, Bool, ap, ◌∙◌, sym}
-use Rattle.std.specs.Prelude.{Option, Some, None, option_map, is_none, is_some, slice_set, nat_lt, ◌&&◌}
+use Rattle.std.proofs.Common.{◌≡◌, ℕ, zero, suc, List, [], ◌∷◌, refl, ap, ◌∙◌}
+use Rattle.std.specs.Prelude.{Option, Some, None, option_map, is_none, slice_set, nat_lt, ◌&&◌}
 use Rattle.std.proofs.lemmas.List.{map-set}
 use Rattle.pfc_client.specs.Session.{place_at, is_free}
 use Rattle.pfc_client.specs.Permitted.{File, files_of}
