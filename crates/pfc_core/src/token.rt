@@ -73,6 +73,22 @@ impl<W: World> Model for Stay<W> {
     ghost view = { λ t. mark_of StayKind t.tag };
 }
 
+impl<W: World> Stay<W> {
+    /// The number of the core that gave it out.
+    pub fn instance(&self) -> u64
+        ensures { result ≡ self.now.instance }
+    {
+        self.tag.instance
+    }
+
+    /// The size of the file in bytes.
+    pub fn size(&self) -> u64
+        ensures { result ≡ self.now.size }
+    {
+        self.tag.known.size()
+    }
+}
+
 /// The right to one `served` entry. It must be spent.
 pub struct Reading<W: World> {
     pub(crate) tag: Tag<W>,
