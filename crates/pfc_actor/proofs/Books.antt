@@ -2,6 +2,7 @@
 use Rattle.std.proofs.Common.{◌≡◌, ℕ, zero, suc, ◌+◌, ◌<◌, ◌≤◌, List, [], ◌∷◌, ◌++◌, length, take, refl, sym, ap, ◌∙◌, subst, arith, Bool, true, false, inl, inr}
 use Rattle.std.specs.Prelude.{◌⊎◌, Option, Some, None, slice_get, slice_set, replicate, Ok, IsSome}
 use Rattle.std.proofs.lemmas.List.{take_more}
+use Rattle.std.proofs.lemmas.List.Sums.{sum_by-cons}
 use Rattle.std.proofs.lemmas.Option.{slice_get-get_or}
 use Rattle.std.proofs.Math.ListN.{get_or}
 use Rattle.pfc_world.specs.Files.{Files, HasSize}
@@ -14,7 +15,7 @@ use Rattle.pfc_client.specs.Session.{place_at, is_free}
 use Rattle.pfc_client.specs.Permitted.{Permits, Walk, files_of, nothing_open}
 use Rattle.pfc_client.proofs.Walks.{walk-more}
 use Rattle.pfc_client.proofs.Permitting.{open-size, close-open}
-use Rattle.pfc_actor.specs.Books.{file_in, IsAnswered, IsBook, IsStay}
+use Rattle.pfc_actor.specs.Books.{file_in, weight_in, open_weight, IsAnswered, IsBook, IsStay}
 
 -- a place that is put holds what was put, or what it held
 place_put : (kept : List (Option Mark)) (n i : ℕ) (o : Option Mark) → (place_at (slice_set kept n o) i ≡ o) ⊎ (place_at (slice_set kept n o) i ≡ place_at kept i)
@@ -91,3 +92,11 @@ closed told files number asked replies after kept now shut capacity capacity2 pl
           | inl e ↦ cc
           | inr e ↦ book.stays i m (sym e ∙ sym (ap (λ l. place_at l i) took) ∙ at)
         ]))
+
+-- where nothing is open nothing weighs
+pub none_left : (kept : List (Option Mark)) → ((j : ℕ) → j < length kept → place_at kept j ≡ None) → (w : Mark → ℕ) → open_weight w kept ≡ 0
+none_left [] none w = refl
+none_left (o ∷ kept) none w =
+    let first : o ≡ None = none 0 (omega arith) in
+    let rest = none_left kept (λ j l. none (suc j) (omega (arith, l))) w in
+    let e = ap (weight_in w) first in omega (arith, sum_by-cons (weight_in w) o kept, e, rest)

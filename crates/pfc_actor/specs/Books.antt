@@ -1,7 +1,10 @@
 -- What contracts see of a client's book, and what it keeps.
-use Rattle.std.specs.Prelude.{◌≡◌, ◌≤◌, ℕ, Bool, false, List, Option, Some, None, length, take, sum_by}
+use Rattle.std.specs.Prelude.{◌≡◌, ◌<◌, ◌≤◌, ℕ, Bool, false, List, Option, Some, None, length, take, sum_by, slice_get, Result}
 use Rattle.pfc_world.specs.Files.{Files}
 use Rattle.pfc_client.specs.declared.reply.Reply.{Reply}
+use Rattle.pfc_client.specs.declared.request.Request.{Request}
+use Rattle.pfc_client.specs.declared.request.RequestRefusal.{RequestRefusal}
+use Rattle.pfc_client.specs.Requests.{request_of}
 use Rattle.pfc_client.specs.Session.{place_at}
 use Rattle.pfc_client.specs.Permitted.{File, Table, Walk, files_of, nothing_open}
 use Rattle.pfc_core.specs.Marks.{Mark, StayKind}
@@ -46,3 +49,8 @@ pub record IsBook (told : Bool) (files : Files) (number : ℕ) (asked : List (Li
   pub few : length replies ≤ length asked
   pub room : length asked ≤ capacity
   pub stays : (i : ℕ) (m : Mark) → place_at kept i ≡ Some m → IsStay number m
+
+-- the line that is answered next says this
+pub record IsNext (b : BookView) (said : Result Request RequestRefusal) : Type 0 where
+  pub some : length b.replies < length b.asked
+  pub is : (line : List ℕ) → slice_get b.asked (length b.replies) ≡ Some line → request_of line ≡ said

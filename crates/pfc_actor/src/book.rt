@@ -1,13 +1,13 @@
 // What a client asked, what it was told, and what it has open.
-ghost use Rattle.std.specs.Prelude.{◌≡◌, ◌<◌, ◌≤◌, ◌+◌, ◌++◌, ◌∷◌, [], ℕ, List, Option, Some, None, option_map, replicate, length, true, false, slice_get, slice_set, sum_by, IfOk, OnOk, OnErr, IfSome, IfNone, IsSome, Ok};
+ghost use Rattle.std.specs.Prelude.{◌≡◌, ◌<◌, ◌≤◌, ◌+◌, ◌++◌, ◌∷◌, [], ℕ, List, Option, Some, None, option_map, replicate, length, true, false, slice_get, slice_set, sum_by, IfOk, OnOk, OnErr, IsTrue, ◌↔◌, IfSome, IfNone, IsSome, MatchOption, Ok};
 ghost use Rattle.pfc_core.specs.Marks.{Mark, StayKind};
 ghost use Rattle.pfc_world.specs.Files.{HasSize};
 ghost use Rattle.pfc_client.specs.declared.reply.Reply.TheVariants as r;
 ghost use Rattle.pfc_client.specs.declared.request.Request.TheVariants as q;
 ghost use Rattle.pfc_client.specs.Requests.{request_of};
 ghost use Rattle.pfc_client.specs.Session.{place_at, is_free};
-ghost use Rattle.pfc_client.specs.Permitted.{Permits, Walk, nothing_open};
-ghost use Rattle.pfc_actor.specs.Books.{BookView, table, open_weight, IsAnswered, IsStay};
+ghost use Rattle.pfc_client.specs.Permitted.{Permits, Table, Walk, nothing_open};
+ghost use Rattle.pfc_actor.specs.Books.{BookView, table, open_weight, IsAnswered, IsNext, IsStay};
 
 use pfc_base::Memory;
 use pfc_client::{DESCRIPTORS, Octets, Reply, Request, RequestRefusal, Session, read_request};
@@ -83,7 +83,7 @@ impl<W: World> Book<W> {
 
     /// The request that is answered next, or why its line is none; `None` where each line has its reply.
     pub fn request(&self) -> Option<Result<Request, RequestRefusal>>
-        ensures { result ≡ option_map request_of (slice_get self.now.asked (length self.now.replies)) }
+        ensures { MatchOption result (length self.now.asked ≤ length self.now.replies) (IsNext self.now) }
     {
         let next = self.replies.len();
         if next >= self.asked.len() {
@@ -122,8 +122,7 @@ impl<W: World> Book<W> {
     /// Answers an open with the file's size.
     pub fn opened(&mut self, number: u64, size: u64, stay: Stay<W>)
         requires going { self.old.shut ≡ false }
-        requires asked { (line : List ℕ) → slice_get self.old.asked (length self.old.replies) ≡ Some line → request_of line ≡ Ok (q.Open number stay.path) }
-        requires some { length self.old.replies < length self.old.asked }
+        requires next { IsNext self.old (Ok (q.Open number stay.path)) }
         requires free { is_free self.old.stays number ≡ true }
         requires size { size ≡ stay.size }
         requires right { HasSize W.told W.files stay.path stay.size }
@@ -139,8 +138,7 @@ impl<W: World> Book<W> {
     /// Answers a close of an open descriptor, and gives what was open there.
     pub fn closed(&mut self, number: u64) -> Option<Stay<W>>
         requires going { self.old.shut ≡ false }
-        requires asked { (line : List ℕ) → slice_get self.old.asked (length self.old.replies) ≡ Some line → request_of line ≡ Ok (q.Close number) }
-        requires some { length self.old.replies < length self.old.asked }
+        requires next { IsNext self.old (Ok (q.Close number)) }
         requires is { IsSome (place_at self.old.stays number) }
         ensures stay { result ≡ place_at self.old.stays number }
         ensures mine { IfSome result (λ stay. IsStay self.old.number stay) }
@@ -148,5 +146,51 @@ impl<W: World> Book<W> {
     {
         self.replies.push_reserved(Reply::Closed);
         self.stays.take(number)
+    }
+
+    /// Whether each request has its reply.
+    pub fn is_answered(&self) -> bool
+        ensures { IsTrue result ↔ (length self.now.replies ≡ length self.now.asked) }
+    {
+        self.replies.len() == self.asked.len()
+    }
+
+    /// The lowest descriptor at which something is open.
+    fn first_open(&self) -> Option<u64>
+        ensures some { IfSome result (λ n. IsSome (place_at self.now.stays n)) }
+        ensures none { IfNone result ((w : Mark → ℕ) → open_weight w self.now.stays ≡ 0) }
+    {
+        self.stays.sixteen();
+        for number in 0..16 {
+            if self.stays.get(number).is_some() {
+                return Some(number);
+            }
+        }
+        None
+    }
+
+    /// Gives back the first stay that is left, with no reply. The client isn't asked any more.
+    pub fn shut(&mut self) -> Option<Stay<W>>
+        requires { length self.old.replies ≡ length self.old.asked }
+        ensures mine { IfSome result (λ stay. IsStay self.old.number stay) }
+        ensures some { IfSome result (λ stay. (w : Mark → ℕ) → open_weight w self.new.stays + w stay ≡ open_weight w self.old.stays) }
+        ensures none { IfNone result ((w : Mark → ℕ) → open_weight w self.new.stays ≡ 0) }
+        ensures rest { self.new ≡ record self.old { stays = self.new.stays; shut = true } }
+    {
+        self.shut = true;
+        match self.first_open() {
+            None => None,
+            Some(number) => self.stays.take(number),
+        }
+    }
+
+    /// The replies, which are permitted.
+    pub fn end(self) -> Vec<Reply>
+        requires { length self.replies ≡ length self.asked }
+        ensures replies { result.items ≡ self.replies }
+        ensures permitted { (end : Table) × Walk W.told W.files nothing_open self.asked self.replies end }
+    {
+        let Book { replies, .. } = self;
+        replies
     }
 }
