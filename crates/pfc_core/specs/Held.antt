@@ -9,7 +9,7 @@ pub record TokensView : Type 0 where
 
 -- whether it is this one, whole
 abbrev pub is_held : Held → Held → Bool
-is_held p q = q.number == p.number && q.client == p.client && q.block == p.block && q.flight == p.flight
+is_held p q = q.number == p.number && q.client == p.client && q.block == p.block && q.flight == p.flight && q.owner == p.owner
 
 -- new is old with one p more, in any order
 pub record Puts (old : List Held) (p : Held) (new : List Held) : Type 0 where

@@ -12,6 +12,7 @@ use Rattle.pfc_core.specs.declared.file.FileCore.TheInside.{Inside}
 use Rattle.pfc_core.specs.Pins.{is_guest}
 use Rattle.pfc_core.specs.Slots.{ShelfView, slot_of, room_of}
 use Rattle.pfc_core.specs.Tied.{IsTied, IsAlive}
+use Rattle.pfc_core.specs.Owned.{IsOwned}
 use Rattle.pfc_core.specs.Out.{out_of}
 use Rattle.pfc_core.specs.Homes.{home_of}
 use Rattle.pfc_core.specs.View.{CoreView}
@@ -37,6 +38,7 @@ pub record IsHeld (first : Start) (es : List Entry) (begun : ℕ) (slots : List 
   pub well : IsWell first es begun
   pub tied : IsTied es (λ i. slot_of i slots) pins
   pub alive : (i : ℕ) → IsAlive (slot_of i slots)
+  pub owned : IsOwned es (λ i. slot_of i slots) pins
 
 -- the file is small enough, the log and the bitmap are as long as it has blocks, and nothing is stored yet
 pub record IsSized (first : Start) (set : List Bool) (size k : ℕ) : Type 0 where
