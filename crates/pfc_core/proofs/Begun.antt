@@ -17,6 +17,7 @@ new_held n = record {
   well = record { lawful = record { rows = λ p e at. absurd cc }; cached = tt; is_on = refl; thawed = refl; bare = λ i. none_member n i; begun_is = refl };
   tied = record { fine = λ i. refl; unique = λ i j t a b. absurd cc; once = λ t. omega arith; late = λ t low. refl; young = λ i t low. refl; at = λ i t low. absurd (omega arith); owed = λ i m t none. omega arith };
   alive = λ i. tt;
+  owned = record { slot = λ i s at. absurd cc; pin = refl };
 }
 
 pub new_in : AreIn [] []

@@ -2,6 +2,7 @@ mod Entries
 mod Numbered
 mod Shelves
 mod Tied
+mod Owned
 mod Kept
 mod Weights
 mod Outs

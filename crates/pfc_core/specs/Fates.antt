@@ -17,6 +17,12 @@ pub record IsBare (p : Held) (slots : List Slot) (pins : List Held) : Type 0 whe
   pub held : 0 < count_by (is_held p) pins
   pub apart : ticket_in (slot_of p.block slots) ≡ Some p.flight → ⊥
 
+-- its own client began that flight, or another one did
+abbrev pub IsWhose : Held → Fate → Type 0
+IsWhose p Lost = p.owner ≢ p.client
+IsWhose p Own = p.owner ≡ p.client
+IsWhose p _ = ⊥
+
 abbrev pub HasFate : Held → List Slot → List Held → Fate → Type 0
 HasFate p slots pins Stray = count_by (is_held p) pins ≡ 0
 HasFate p slots pins (Flying s) = (0 < count_by (is_held p) pins) × IsOn p slots s × (s.landed ≡ false)

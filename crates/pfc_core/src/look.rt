@@ -1,5 +1,5 @@
 ghost use Rattle.std.specs.Prelude.{◌≡◌};
-ghost use Rattle.pfc_core.specs.Fates.{HasFate};
+ghost use Rattle.pfc_core.specs.Fates.{HasFate, IsWhose};
 
 use crate::held::{Held, Tokens};
 use crate::leave::Leave;
@@ -32,7 +32,9 @@ pub(crate) enum Fate {
 }
 
 /// The fate of a pin whose flight has no slot any more.
-fn bare(held: Held) -> Fate {
+fn bare(held: Held) -> Fate
+    ensures { IsWhose held result }
+{
     if held.owner == held.client {
         return Fate::Own;
     }
