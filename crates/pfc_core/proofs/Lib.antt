@@ -1,6 +1,7 @@
 mod Entries
 mod Numbered
 mod Shelves
+mod Parts
 mod Tied
 mod Owned
 mod Kept
@@ -8,3 +9,5 @@ mod Weights
 mod Outs
 mod Begun
 mod Leaving
+mod Looking
+mod Releasing

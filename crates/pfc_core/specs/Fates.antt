@@ -10,6 +10,7 @@ use Rattle.pfc_core.specs.Slots.{slot_of, ticket_in}
 -- the pin's flight has this slot
 pub record IsOn (p : Held) (slots : List Slot) (s : Slot) : Type 0 where
   pub at : slot_of p.block slots ≡ Some s
+  pub block : s.block ≡ p.block
   pub ticket : s.ticket ≡ p.flight
 
 -- it is out, and its flight has a slot no more

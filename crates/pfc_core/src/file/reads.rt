@@ -100,12 +100,13 @@ impl<W: World> FileCore<W> {
             });
         }
         reading.discard();
-        if let Some(served) = served {
-            self.log.push(Entry::Served {
-                client: held.client,
-                served,
-            });
-        }
+        let Some(served) = served else {
+            return Ok(());
+        };
+        self.log.push(Entry::Served {
+            client: held.client,
+            served,
+        });
         Ok(())
     }
 
