@@ -16,9 +16,9 @@ sees_self : (m : Mark) → sees m m ≡ 1
 sees_self m = ap {B = ℕ} (λ (q : Bool). if q then 1 else 0) (same_self m)
 
 pub releases_of : (old : CoreView) (p : Mark) (new : CoreView) (r : Bool) → (r ≡ true → Unpins old p new) → (r ≡ false → listed p old.out ≡ 0) → (r ≡ false → new ≡ old) → Releases old p new
-releases_of old p new r yes no same = by_bool r
-    (λ y. record { known = λ some. yes y; strange = λ none. let loses = (yes y).loses (sees p) in absurd (omega (arith, none, loses, sees_self p)) })
-    (λ n. record { known = λ some. absurd (omega (arith, some, no n)); strange = λ none. same n })
+releases_of old p new r taken out same = by_bool r
+    (λ y. record { known = λ some. taken y; strange = λ none. let loses = (taken y).loses (sees p) in absurd (omega (arith, none, loses, sees_self p)) })
+    (λ n. record { known = λ some. absurd (omega (arith, some, out n)); strange = λ none. same n })
 
 pub releases_more : (old : CoreView) (pins : List Mark) (p : Mark) (mid new : CoreView) → ReleasesAll old pins mid → Releases mid p new → ReleasesAll old (pins ++ p ∷ []) new
 releases_more old [] p mid new is then_p = (new, subst (λ (v : CoreView). Releases v p new) is then_p, refl)
