@@ -1,10 +1,8 @@
 -- A core as it begins.
-use Rattle.std.proofs.Common.{◌≡◌, ℕ, zero, suc, ◌+◌, ◌≤◌, ◌<◌, List, [], ◌∷◌, refl, ap, ◌∙◌, sym, arith, Bool, true, false, Option, Some, None}
+use Rattle.std.proofs.Common.{◌≡◌, ℕ, zero, suc, [], refl, arith, false}
 use Rattle.std.specs.Prelude.{replicate}
 use Rattle.pfc_base.specs.BlockSet.{is_member}
 use Rattle.pfc_log.specs.declared.start.Start.TheVariants.{Stored}
-use Rattle.pfc_core.specs.declared.held.Held.{Held}
-use Rattle.pfc_core.specs.declared.slot.Slot.{Slot}
 use Rattle.pfc_core.specs.Kept.{IsHeld, AreIn}
 
 pub none_member : (n i : ℕ) → is_member (replicate n false) i ≡ false

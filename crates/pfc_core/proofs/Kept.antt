@@ -1,25 +1,25 @@
 -- What each call does to what is kept, over plain values.
-use Rattle.std.proofs.Common.{◌≡◌, ◌≢◌, ◌⊎◌, ℕ, zero, suc, ◌+◌, ◌<◌, ◌≤◌, ◌*◌, IsTrue, IsFalse, List, [], ◌∷◌, ◌++◌, length, sym, refl, ap, ◌∙◌, subst, inl, inr, arith, Bool, true, false, Option, Some, None, if◌then◌else◌, ◌==◌, ◌&&◌, ◌-◌, eq-eqb, ne_eqb, tests}
+use Rattle.std.proofs.Common.{◌≡◌, ◌≢◌, ◌⊎◌, ℕ, ◌+◌, ◌<◌, ◌≤◌, ◌*◌, IsTrue, IsFalse, List, [], ◌∷◌, ◌++◌, length, sym, refl, ap, ◌∙◌, subst, inl, inr, arith, Bool, true, false, Option, Some, None, if◌then◌else◌, ◌==◌, eq-eqb, tests}
 use mathlib.Core.Logic.{dite}
 use native.Mathlib.Decide.{ℕ_discrete}
-use Rattle.std.specs.Prelude.{sum_by, fold, count_by}
-use Rattle.std.proofs.lemmas.List.Sums.{sum_by_from, sum_by-cons, count_by-le-length}
+use Rattle.std.specs.Prelude.{sum_by, count_by}
+use Rattle.std.proofs.lemmas.List.Sums.{sum_by-cons, count_by-le-length}
 use Rattle.pfc_log.specs.declared.entry.Entry.{Entry}
-use Rattle.pfc_log.specs.declared.entry.Entry.TheVariants.{Opened, Closed, Begin, Join, Hit, Direct, Landed, Failed, Dropped, Wrote, Left, Served}
+use Rattle.pfc_log.specs.declared.entry.Entry.TheVariants.{Opened, Closed, Begin, Join, Hit, Direct, Landed, Failed, Dropped, Left}
 use Rattle.pfc_log.specs.declared.start.Start.{Start}
 use Rattle.pfc_log.specs.declared.entry.Fell.{Fell}
 use Rattle.pfc_log.specs.declared.entry.Spot.TheVariants.{Ram}
 use Rattle.pfc_log.specs.declared.entry.Way.TheVariants.{Lost}
 use Rattle.pfc_log.specs.declared.entry.DropCause.{DropCause}
-use Rattle.pfc_log.specs.Views.{Place, Away, Flying, Here, place, moves, is_here, times, begins, bound, is_begin, is_landed, is_failed, is_lost, is_asked, is_frozen, is_written_off, is_opened, is_closed, opened, closed, stored}
-use Rattle.pfc_log.specs.Lawful.{Lawful, Row, MayDrop, IsComplete}
-use Rattle.pfc_log.proofs.More.{lawful_more, place_more, times_more, times_none, times_one}
+use Rattle.pfc_log.specs.Views.{Place, Away, Flying, Here, place, moves, is_here, times, bound, is_begin, is_landed, is_failed, is_lost, is_asked, is_frozen, is_written_off, is_opened, is_closed, opened, closed}
+use Rattle.pfc_log.specs.Lawful.{Row, MayDrop}
+use Rattle.pfc_log.proofs.More.{lawful_more, times_more, times_none, times_one}
 use Rattle.pfc_log.proofs.Same.{is_keeping, stored_same}
 use Rattle.pfc_core.specs.declared.slot.Slot.{Slot}
 use Rattle.pfc_core.specs.declared.held.Held.{Held}
 use Rattle.pfc_core.specs.Held.{Puts, Takes, is_held}
 use Rattle.pfc_core.specs.Pins.{on, is_on, is_guest}
-use Rattle.pfc_core.specs.Slots.{slot_of, place_of, ticket_in, room_of, landed_slot, bumped, fresh_slot, lowered, done_slot}
+use Rattle.pfc_core.specs.Slots.{slot_of, ticket_in, room_of, landed_slot, bumped, fresh_slot, lowered, done_slot}
 use Rattle.pfc_core.specs.Tied.{IsTied, IsFine, Fine, IsAlive}
 use Rattle.pfc_core.specs.Kept.{IsWell, IsHeld, AreIn}
 use Rattle.std.proofs.lemmas.List.Sums.{sum_by-le-sum_by}
@@ -27,7 +27,7 @@ use Rattle.pfc_log.specs.Owners.{owner}
 use Rattle.pfc_log.proofs.Tickets.{owner_more, owner_new}
 use Rattle.pfc_core.specs.Owned.{IsOwned}
 use Rattle.pfc_core.proofs.Owned.{client_not, owned_more, owned_at, owned_change, owned_gone, owned_put, owned_take, owned_pin}
-use Rattle.pfc_core.proofs.Tied.{land_tied, fail_tied, bump_tied, begin_tied, asked_yes, here, there, gone_tied, lost_tied, lost_row, less_tied, left_tied, drop_tied, take_one, some_is, by_bool, quiet_tied}
+use Rattle.pfc_core.proofs.Tied.{land_tied, fail_tied, bump_tied, begin_tied, asked_yes, here, there, gone_tied, lost_tied, lost_row, less_tied, left_tied, drop_tied, some_is, by_bool, quiet_tied}
 
 -- an entry that begins nothing, writes nothing and ends nothing of the store
 pub well_more : (first : Start) (es : List Entry) (e : Entry) (n : ℕ) → IsWell first es n → Row first es e → is_keeping e ≡ false → is_frozen e ≡ false → is_written_off e ≡ false → is_begin e ≡ false → IsWell first (es ++ e ∷ []) n

@@ -1,11 +1,10 @@
 -- What a pin that is out finds.
-use Rattle.std.proofs.Common.{◌≡◌, ℕ, ◌+◌, ◌<◌, ◌≤◌, List, ap, ◌∙◌, sym, subst, arith, Bool, true, false, Option, Some, eq-eqb, ◌==◌, ◌&&◌}
-use Rattle.std.specs.Prelude.{sum_by, count_by, if◌then◌else◌}
+use Rattle.std.proofs.Common.{◌≡◌, ℕ, ◌<◌, List, ap, sym, subst, arith, Bool, true, false, eq-eqb}
+use Rattle.std.specs.Prelude.{count_by, if◌then◌else◌}
 use Rattle.pfc_core.specs.declared.slot.Slot.{Slot}
 use Rattle.pfc_core.specs.declared.held.Held.{Held}
 use Rattle.pfc_core.specs.Held.{is_held}
-use Rattle.pfc_core.specs.Marks.{Mark, StayKind, ReadingKind, TicketKind, PinKind, sees, listed}
-use Rattle.pfc_core.specs.Slots.{slot_of}
+use Rattle.pfc_core.specs.Marks.{Mark, TicketKind, PinKind, sees, listed}
 use Rattle.pfc_core.specs.Leaves.{is_ticket, tickets_on}
 use Rattle.pfc_core.specs.Out.{Home, mark_in, flight_of, out_of}
 use Rattle.pfc_core.specs.Fates.{IsOn}

@@ -1,5 +1,5 @@
 -- The marks of what is out, weighed.
-use Rattle.std.proofs.Common.{◌≡◌, ◌≢◌, ℕ, zero, suc, ◌+◌, ◌<◌, ◌≤◌, List, [], ◌∷◌, ◌++◌, length, map, sym, refl, ap, ◌∙◌, subst, arith, Bool, true, false, Option, Some, None, ◌==◌, ◌&&◌, tests, eq-eqb}
+use Rattle.std.proofs.Common.{◌≡◌, ℕ, ◌+◌, List, [], ◌∷◌, ◌++◌, map, sym, refl, ap, ◌∙◌, subst, arith, Bool, true, false, ◌==◌, ◌&&◌, eq-eqb}
 use Rattle.std.specs.Prelude.{sum_by, count_by, flat_map, if◌then◌else◌}
 use Rattle.std.specs.Cmp.Lexicographic.{pointwise}
 use Rattle.std.proofs.lemmas.Bool.{eqb-true}
@@ -8,11 +8,10 @@ use Rattle.std.proofs.lemmas.List.Sums.{sum_by-cons, sum_by-append}
 use Rattle.pfc_core.specs.declared.slot.Slot.{Slot}
 use Rattle.pfc_core.specs.declared.held.Held.{Held}
 use Rattle.pfc_core.specs.Held.{is_held}
-use Rattle.pfc_core.specs.Marks.{Kind, StayKind, ReadingKind, TicketKind, PinKind, JobKind, kind_code, Mark, same, sees, listed}
-use Rattle.pfc_core.specs.Slots.{slot_of, IsSingle}
-use Rattle.pfc_core.specs.Out.{Home, mark_in, flight_of, flights_at, out_of}
+use Rattle.pfc_core.specs.Marks.{Kind, StayKind, ReadingKind, PinKind, kind_code, Mark, same, sees}
+use Rattle.pfc_core.specs.Out.{Home, mark_in, flights_at, out_of}
 use Rattle.pfc_core.proofs.Entries.{by_bool, sum_map}
-use Rattle.pfc_core.proofs.Numbered.{held_self, held_is}
+use Rattle.pfc_core.proofs.Numbered.{held_is}
 
 sum_flat : {X Y : Type 0} (w : Y → ℕ) (f : X → List Y) (xs : List X) → sum_by w (flat_map f xs) ≡ sum_by (λ x. sum_by w (f x)) xs
 sum_flat w f [] = refl

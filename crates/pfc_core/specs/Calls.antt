@@ -1,5 +1,5 @@
 -- What each call does.
-use Rattle.std.specs.Prelude.{◌≡◌, ◌<◌, ◌+◌, ◌⊎◌, ℕ, Bool, true, false, ◌==◌, ◌&&◌, List, [], ◌∷◌, ◌++◌, IsTrue, if◌then◌else◌, sum_by, Some}
+use Rattle.std.specs.Prelude.{◌≡◌, ◌+◌, ◌⊎◌, ℕ, ◌==◌, ◌&&◌, [], ◌∷◌, ◌++◌, IsTrue, if◌then◌else◌, sum_by, Some}
 use Rattle.std.specs.Cmp.Lexicographic.{pointwise}
 use Rattle.pfc_log.specs.declared.entry.Entry.{Entry}
 use Rattle.pfc_log.specs.declared.entry.Entry.TheVariants.{Opened, Closed, Begin, Join, Hit, Landed, Failed, Dropped, Left}
@@ -8,8 +8,7 @@ use Rattle.pfc_log.specs.declared.entry.Fell.{Fell}
 use Rattle.pfc_log.specs.declared.entry.DropCause.{DropCause}
 use Rattle.pfc_log.specs.Lawful.{MayDrop}
 use Rattle.pfc_log.specs.Owners.{owner}
-use Rattle.pfc_log.specs.Views.{Place, Away, place, begins}
-use Rattle.pfc_log.specs.declared.entry.Stranger.{Stranger}
+use Rattle.pfc_log.specs.Views.{Away, place, begins}
 use Rattle.pfc_core.specs.declared.token.Strayed.{Strayed}
 use Rattle.pfc_core.specs.declared.token.Decision.{Decision}
 use Rattle.pfc_core.specs.declared.token.Decision.TheVariants.{Resident, Joined, Fetch}

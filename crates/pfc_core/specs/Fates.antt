@@ -1,5 +1,5 @@
 -- What has become of a pin, by what a core keeps.
-use Rattle.std.specs.Prelude.{◌≡◌, ◌≢◌, ◌<◌, ℕ, true, false, List, Option, Some, count_by}
+use Rattle.std.specs.Prelude.{◌≡◌, ◌≢◌, ◌<◌, true, false, List, Some, count_by}
 use Rattle.pfc_core.specs.declared.held.Held.{Held}
 use Rattle.pfc_core.specs.declared.look.Fate.{Fate}
 use Rattle.pfc_core.specs.declared.look.Fate.TheVariants.{Stray, Flying, Ready, Lost, Own}

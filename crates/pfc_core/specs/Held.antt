@@ -1,5 +1,5 @@
 -- Lists of tokens that are out, weighed.
-use Rattle.std.specs.Prelude.{◌≡◌, ℕ, ◌+◌, Bool, ◌==◌, ◌&&◌, List, count_by, sum_by}
+use Rattle.std.specs.Prelude.{◌≡◌, ℕ, ◌+◌, Bool, ◌==◌, ◌&&◌, List, sum_by}
 use Rattle.pfc_core.specs.declared.held.Held.{Held}
 
 -- the tokens of one kind, and for how many more there is room

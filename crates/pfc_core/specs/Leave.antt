@@ -1,5 +1,5 @@
 -- The right to one read straight from the origin.
-use Rattle.std.specs.Prelude.{◌≡◌, ℕ, ◌<◌, ◌≤◌, List}
+use Rattle.std.specs.Prelude.{ℕ, ◌<◌, ◌≤◌, List}
 use Rattle.pfc_base.specs.declared.block.Part.{Part}
 use Rattle.pfc_base.specs.Block.{IsPartOf}
 use Rattle.pfc_core.specs.Marks.{Mark}

@@ -1,13 +1,11 @@
 -- Whether a block leaves memory with a pin.
-use Rattle.std.specs.Prelude.{ℕ, ◌+◌, Bool, true, false, ◌==◌, ◌&&◌, List, Option, Some, None, sum_by, count_by}
+use Rattle.std.specs.Prelude.{ℕ, Bool, false, ◌==◌, ◌&&◌, List, Option, Some, None, count_by}
 use Rattle.pfc_log.specs.declared.entry.Entry.{Entry}
 use Rattle.pfc_log.specs.declared.entry.DropCause.{DropCause}
 use Rattle.pfc_log.specs.declared.entry.DropCause.TheVariants as cause
-use Rattle.pfc_log.specs.Views.{Place, Away, Flying, Here, place}
+use Rattle.pfc_log.specs.Views.{Place, Flying, Here, place}
 use Rattle.pfc_core.specs.declared.slot.Slot.{Slot}
-use Rattle.pfc_core.specs.declared.held.Held.{Held}
 use Rattle.pfc_core.specs.Marks.{Mark, TicketKind, PinKind, kind_code}
-use Rattle.pfc_core.specs.Pins.{on}
 
 -- the block is in flight t
 abbrev pub is_flying_at : ℕ → Place → Bool

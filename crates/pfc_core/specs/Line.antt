@@ -1,5 +1,5 @@
 -- A client's line to the origin.
-use Rattle.std.specs.Prelude.{◌≡◌, ℕ, ◌≤◌, ◌⊎◌}
+use Rattle.std.specs.Prelude.{◌≡◌, ◌≤◌, ◌⊎◌}
 use Rattle.pfc_world.specs.Counts.{add_count, Rose}
 use Rattle.pfc_core.specs.declared.line.Flight.{Flight}
 use Rattle.pfc_core.specs.declared.line.Flight.TheVariants.{Landed, Fault, Memory}

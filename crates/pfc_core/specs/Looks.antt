@@ -1,7 +1,6 @@
 -- What has become of a pin's flight.
-use Rattle.std.specs.Prelude.{◌≡◌, ◌≢◌, ◌<◌, ◌+◌, ℕ, IsTrue, List}
+use Rattle.std.specs.Prelude.{◌≡◌, ◌≢◌, ◌<◌, IsTrue}
 use Rattle.pfc_base.specs.declared.block.Part.{Part}
-use Rattle.pfc_log.specs.declared.entry.Entry.{Entry}
 use Rattle.pfc_log.specs.declared.entry.Entry.TheVariants.{Direct}
 use Rattle.pfc_log.specs.declared.entry.Way.TheVariants as way
 use Rattle.pfc_log.specs.Views.{place, times, is_failed}

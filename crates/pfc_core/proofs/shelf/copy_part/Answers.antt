@@ -1,6 +1,4 @@
-use Rattle.std.proofs.Common.{◌≡◌, ◌+◌, ◌-◌, ◌*◌, ◌≤◌, ℕ, List, length, take, drop, arith, rules, ap, sym, ◌∙◌, subst}
-use Rattle.pfc_base.specs.Block.{block_len_of}
-use Rattle.pfc_world.specs.Files.{Holds}
+use Rattle.std.proofs.Common.{◌≡◌, ◌+◌, ◌-◌, ◌*◌, ℕ, List, take, drop, arith, rules, ap, ◌∙◌}
 use Rattle.pfc_core.proofs.Parts.{holds_part}
 use Rattle.pfc_core.proofs.shelf.copy_part.Goals as goal
 

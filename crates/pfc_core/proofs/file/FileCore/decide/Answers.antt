@@ -1,17 +1,15 @@
-use Rattle.std.proofs.Common.{refl, ◌≡◌, ◌≢◌, ◌∙◌, sym, ap, subst, rules, arith, List, [], ◌∷◌, ◌++◌, length, true, false, Bool, ◌<◌, ◌≤◌, ℕ, Option, Some, None, eq-eqb}
-use Rattle.std.specs.Prelude.{count_by, sum_by}
+use Rattle.std.proofs.Common.{refl, ◌≡◌, ◌∙◌, sym, ap, subst, rules, arith, List, true, false, ◌<◌, ℕ, Some, None, eq-eqb}
 use Rattle.pfc_log.specs.Owners.{owner}
-use Rattle.pfc_log.specs.Views.{bound, Place, place}
+use Rattle.pfc_log.specs.Views.{bound}
 use Rattle.pfc_core.specs.declared.held.Held.{Held}
 use Rattle.pfc_core.specs.declared.slot.Slot.{Slot}
-use Rattle.pfc_core.specs.Marks.{Mark, TicketKind, JobKind, PinKind, Gains, Loses, listed}
-use Rattle.pfc_core.specs.Held.{Takes, Puts, is_held}
+use Rattle.pfc_core.specs.Marks.{TicketKind, PinKind}
+use Rattle.pfc_core.specs.Held.{Puts}
 use Rattle.pfc_core.specs.Leaves.{is_here_at, is_flying_at}
-use Rattle.pfc_core.specs.Slots.{slot_of, Changes, ShelfView, room_of, landed_slot, done_slot, bumped, lowered, fresh_slot}
-use Rattle.pfc_core.specs.Out.{Home, mark_in, flight_of, out_of}
-use Rattle.pfc_core.specs.Tags.{home_in, IsAt, mark_of}
+use Rattle.pfc_core.specs.Slots.{slot_of, Changes, room_of, bumped, fresh_slot}
+use Rattle.pfc_core.specs.Out.{Home, out_of}
+use Rattle.pfc_core.specs.Tags.{home_in}
 use Rattle.pfc_core.specs.Homes.{home_of}
-use Rattle.pfc_core.specs.View.{CoreView}
 use Rattle.pfc_core.specs.Kept.{view_of}
 use Rattle.pfc_core.proofs.Kept.{begin_kept, hit_kept, join_kept, in_more, room_at_most, puts_length, away_at, here_at, flying_at}
 use Rattle.pfc_core.proofs.Outs.{fetch_gains, pin_gains, home_moved, gains_at, mark_at}

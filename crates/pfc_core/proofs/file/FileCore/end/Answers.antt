@@ -1,13 +1,10 @@
-use Rattle.std.proofs.Common.{refl, ◌≡◌, ◌∙◌, sym, ap, subst, rules, arith, List, [], ◌∷◌, ◌++◌, ℕ}
-use Rattle.pfc_log.specs.declared.entry.Entry.{Entry}
+use Rattle.std.proofs.Common.{refl, rules, arith}
 use Rattle.pfc_log.specs.declared.entry.Entry.TheVariants.{Served}
-use Rattle.pfc_core.specs.declared.held.Held.{Held}
-use Rattle.pfc_core.specs.Marks.{Mark, ReadingKind}
+use Rattle.pfc_core.specs.Marks.{ReadingKind}
 use Rattle.pfc_core.specs.Held.{Takes}
-use Rattle.pfc_core.specs.Out.{Home, mark_in, out_of}
-use Rattle.pfc_core.specs.Tags.{home_in, IsAt, mark_of}
+use Rattle.pfc_core.specs.Out.{out_of}
+use Rattle.pfc_core.specs.Tags.{home_in}
 use Rattle.pfc_core.specs.Homes.{home_of}
-use Rattle.pfc_core.specs.View.{CoreView}
 use Rattle.pfc_core.specs.Kept.{view_of}
 use Rattle.pfc_core.proofs.Kept.{quiet_kept, in_more, takes_length}
 use Rattle.pfc_core.proofs.Outs.{loses_reading, loses_at, unlisted_reading, unlisted_elsewhere, at_home}

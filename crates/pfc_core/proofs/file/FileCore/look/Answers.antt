@@ -1,11 +1,9 @@
-use Rattle.std.proofs.Common.{refl, ◌≡◌, ◌≢◌, ◌∙◌, sym, ap, subst, rules, arith, List, true, false, Bool, ◌<◌, ◌≤◌, ℕ, eq-eqb}
-use Rattle.pfc_core.specs.declared.held.Held.{Held}
-use Rattle.pfc_core.specs.declared.slot.Slot.{Slot}
+use Rattle.std.proofs.Common.{refl, ◌∙◌, sym, ap, arith, eq-eqb}
 use Rattle.pfc_core.specs.Marks.{Mark, PinKind}
 use Rattle.pfc_core.specs.Held.{Takes}
 use Rattle.pfc_core.specs.Leaves.{is_here_at, is_flying_at}
-use Rattle.pfc_core.specs.Out.{Home, mark_in, out_of}
-use Rattle.pfc_core.specs.Tags.{home_in, IsAt, mark_of}
+use Rattle.pfc_core.specs.Out.{out_of}
+use Rattle.pfc_core.specs.Tags.{home_in}
 use Rattle.pfc_core.specs.Homes.{home_of}
 use Rattle.pfc_core.specs.Leave.{leave_of}
 use Rattle.pfc_core.specs.Kept.{view_of}

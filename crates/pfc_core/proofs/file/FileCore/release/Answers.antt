@@ -1,17 +1,12 @@
-use Rattle.std.proofs.Common.{refl, ◌≡◌, ◌≢◌, ◌∙◌, sym, ap, subst, rules, arith, List, [], ◌∷◌, ◌++◌, length, true, false, Bool, ◌<◌, ◌≤◌, ℕ, Option, Some, None, eq-eqb, ne_eqb, ◌==◌, if◌then◌else◌, inl}
-use Rattle.std.specs.Prelude.{count_by, sum_by}
-use Rattle.pfc_log.specs.declared.entry.Entry.TheVariants.{Left, Dropped}
-use Rattle.pfc_log.specs.Lawful.{MayDrop}
-use Rattle.pfc_core.specs.declared.held.Held.{Held}
+use Rattle.std.proofs.Common.{refl, ◌≡◌, ◌≢◌, ◌∙◌, sym, ap, subst, rules, arith, [], ◌∷◌, ◌++◌, Bool, ℕ, Some, None, if◌then◌else◌}
+use Rattle.pfc_log.specs.declared.entry.Entry.TheVariants.{Left}
 use Rattle.pfc_core.specs.declared.slot.Slot.{Slot}
-use Rattle.pfc_core.specs.Marks.{Mark, TicketKind, JobKind, PinKind, Gains, Loses, listed}
-use Rattle.pfc_core.specs.Held.{Takes, Puts, is_held}
-use Rattle.pfc_core.specs.Leaves.{leaves, pins_on}
-use Rattle.pfc_core.specs.Slots.{slot_of, Changes, ShelfView, room_of, done_slot, lowered}
-use Rattle.pfc_core.specs.Out.{Home, mark_in, flight_of, out_of}
-use Rattle.pfc_core.specs.Tags.{home_in, IsAt, mark_of}
+use Rattle.pfc_core.specs.Marks.{PinKind}
+use Rattle.pfc_core.specs.Held.{Takes}
+use Rattle.pfc_core.specs.Slots.{slot_of, Changes, room_of, lowered}
+use Rattle.pfc_core.specs.Out.{out_of}
+use Rattle.pfc_core.specs.Tags.{home_in}
 use Rattle.pfc_core.specs.Homes.{home_of}
-use Rattle.pfc_core.specs.View.{CoreView}
 use Rattle.pfc_core.specs.Kept.{view_of}
 use Rattle.pfc_core.proofs.Kept.{gone_kept, less_kept, left_kept, apart_none, apart_other, in_more, takes_length, room_some}
 use Rattle.pfc_core.proofs.Leaving.{leaves_none, leaves_not, leaves_so, not_last, last_is}

@@ -1,7 +1,5 @@
-use Rattle.std.proofs.Common.{refl, rules, ◌≡◌, ◌+◌, ◌*◌, ℕ, Bool, true, false, List, Option, Some, None, ap, sym, ◌∙◌, subst, nat_eq, arith}
+use Rattle.std.proofs.Common.{rules, ◌≡◌, Some, None, ap, sym, ◌∙◌, nat_eq}
 use Rattle.std.specs.Map.{lookup}
-use Rattle.pfc_world.specs.Files.{Holds}
-use Rattle.pfc_base.specs.Block.{IsPartOf}
 use Rattle.pfc_core.specs.declared.slot.Slot.{Slot}
 use Rattle.pfc_core.proofs.Shelves.{slot_look, slot_there, not_there}
 use Rattle.pfc_core.proofs.Parts.{block_there, no_block}
