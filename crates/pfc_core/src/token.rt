@@ -1,6 +1,7 @@
 // Tokens: what a core gives out, and takes back once. Contracts see each as its mark. Those that must be spent can't be
 // dropped; `discard` ends one that no core takes.
 ghost use Rattle.std.specs.Prelude.{◌≡◌, ◌<◌, ◌≤◌, ℕ, MatchBool, IfOk};
+ghost use Rattle.pfc_world.specs.Files.{HasSize};
 ghost use Rattle.pfc_core.specs.Out.{Home, mark_in};
 ghost use Rattle.pfc_core.specs.Tags.{mark_of, IsAt};
 ghost use Rattle.pfc_core.specs.Homes.{home_of};
@@ -85,7 +86,8 @@ impl<W: World> Stay<W> {
 
     /// The size of the file in bytes.
     pub fn size(&self) -> u64
-        ensures { result ≡ self.now.size }
+        ensures size { result ≡ self.now.size }
+        ensures right { HasSize W.told W.files self.now.path self.now.size }
     {
         self.tag.known.size()
     }
