@@ -9,6 +9,7 @@ pub mod Out
 pub mod Homes
 pub mod Tags
 pub mod Blocks
+pub mod Leave
 pub mod View
 pub mod Leaves
 pub mod Kept
