@@ -1,0 +1,5 @@
+pub mod OpView
+pub mod Steps
+pub mod Plans
+pub mod Segments
+pub mod Draft
