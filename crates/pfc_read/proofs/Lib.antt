@@ -1,2 +1,4 @@
 mod Decided
 mod Asked
+mod Weights
+mod Hands

@@ -3,3 +3,4 @@ pub mod Steps
 pub mod Plans
 pub mod Segments
 pub mod Draft
+pub mod Kept

@@ -33,6 +33,14 @@ impl<W: World> Draft<W> {
         })
     }
 
+    /// Ends a draft in which nothing was decided.
+    pub fn discard(self)
+        requires { vec_len self.tickets ≡ 0 }
+    {
+        let Draft { tickets, .. } = self;
+        tickets.destroy_empty();
+    }
+
     fn keep(&mut self, pin: Pin<W>, part: Part, at: usize, source: Source)
         requires { vec_len self.old.pendings < vec_capacity self.old.pendings }
         ensures pendings { self.new.pendings.items ≡ self.old.pendings.items ++ record { pin = pin; segment = record { part = part; at = at; source = source } } ∷ [] }

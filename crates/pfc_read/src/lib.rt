@@ -3,6 +3,8 @@
 
 mod action;
 mod draft;
+mod op;
 mod segment;
 
 pub use action::{Action, Answer, Done, Saw};
+pub use op::ReadOp;
