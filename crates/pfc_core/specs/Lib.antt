@@ -9,7 +9,6 @@ pub mod Out
 pub mod Homes
 pub mod Tags
 pub mod Blocks
-pub mod Leave
 pub mod View
 pub mod Leaves
 pub mod Kept

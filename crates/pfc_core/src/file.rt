@@ -148,8 +148,7 @@ impl<W: World> FileCore<W> {
 
     /// The block size in bytes.
     pub fn block_size(&self) -> u64
-        ensures is { result ≡ self.now.block_size }
-        ensures most { result ≤ 16777216 }
+        ensures { result ≡ self.now.block_size }
     {
         self.shelf.block_size()
     }

@@ -3,12 +3,10 @@
 
 mod file;
 mod held;
-mod leave;
 mod shelf;
 mod slot;
 mod tag;
 mod token;
 
 pub use file::{FileCore, Retired};
-pub use leave::Leave;
 pub use token::{Decision, Job, Pin, Reading, Stay, Strayed, Ticket, Twin};
