@@ -1,6 +1,6 @@
 -- Sums over the values of a list of entries.
-use Rattle.std.proofs.Common.{◌≡◌, ◌≢◌, ◌⊎◌, ℕ, zero, suc, ◌+◌, ◌<◌, ◌≤◌, List, [], ◌∷◌, ◌++◌, length, get_or, sym, refl, ap, ◌∙◌, subst, inl, inr, arith, Bool, true, false, cond, Option, Some, None, map, ◌==◌}
-use Rattle.std.specs.Prelude.{Result, Ok, Err, IsOk, OnOk, sum_by, swap_remove, position, not, nat_eq, nat_lt}
+use Rattle.std.proofs.Common.{◌≡◌, ℕ, suc, ◌+◌, ◌<◌, ◌≤◌, List, [], ◌∷◌, length, get_or, sym, refl, ap, ◌∙◌, subst, arith, Bool, true, false, cond, Option, Some, None, map}
+use Rattle.std.specs.Prelude.{Result, Ok, Err, IsOk, OnOk, sum_by, swap_remove, not, nat_eq, nat_lt}
 use Rattle.std.specs.List.{position_or_len}
 use Rattle.std.specs.Option.{option_map_or}
 use Rattle.std.proofs.lemmas.Bool.{lt-ltb}

@@ -1,28 +1,26 @@
 -- Whether a block leaves memory, by its slot.
-use Rattle.std.proofs.Common.{◌≡◌, ◌≢◌, ℕ, ◌+◌, ◌<◌, ◌≤◌, List, [], ◌∷◌, ◌++◌, sym, refl, ap, ◌∙◌, subst, arith, Bool, true, false, Option, Some, None, if◌then◌else◌, ◌==◌, ◌&&◌, eq-eqb, ne_eqb, tests}
+use Rattle.std.proofs.Common.{◌≡◌, ◌≢◌, ℕ, ◌+◌, ◌<◌, List, sym, refl, ap, ◌∙◌, subst, arith, Bool, true, false, Option, Some, None, if◌then◌else◌, ◌==◌, ◌&&◌, eq-eqb, ne_eqb, tests}
 use mathlib.Core.Logic.{dite}
 use native.Mathlib.Decide.{ℕ_discrete}
-use Rattle.std.specs.Prelude.{sum_by, count_by}
 use Rattle.pfc_log.specs.declared.entry.Entry.{Entry}
-use Rattle.pfc_log.specs.declared.entry.Entry.TheVariants.{Left, Dropped}
 use Rattle.pfc_log.specs.declared.entry.DropCause.{DropCause}
 use Rattle.pfc_log.specs.declared.entry.DropCause.TheVariants as cause
 use Rattle.pfc_log.specs.declared.start.Start.{Start}
-use Rattle.pfc_log.specs.Views.{Place, Away, Flying, Here, place, times, is_frozen, is_written_off}
+use Rattle.pfc_log.specs.Views.{Place, Flying, Here, place, times, is_frozen, is_written_off}
 use Rattle.pfc_log.specs.Lawful.{MayDrop}
 use Rattle.pfc_core.specs.declared.slot.Slot.{Slot}
 use Rattle.pfc_core.specs.declared.held.Held.{Held}
 use Rattle.pfc_core.specs.Held.{Takes}
 use Rattle.pfc_core.specs.Marks.{Mark, StayKind, ReadingKind, TicketKind, PinKind, JobKind}
 use Rattle.pfc_core.specs.Pins.{on}
-use Rattle.pfc_core.specs.Slots.{slot_of, place_of, lowered, done_slot, Changes, ShelfView}
+use Rattle.pfc_core.specs.Slots.{slot_of, place_of}
 use Rattle.pfc_core.specs.Tied.{Fine, IsFine}
 use Rattle.pfc_core.specs.Leaves.{is_done_at, is_pin, pins_on, leaves, leaves_slot, IsOtherCause}
 use Rattle.pfc_core.specs.Out.{Home, mark_in, flight_of, out_of}
 use Rattle.pfc_core.specs.Kept.{IsHeld, IsWell}
 use Rattle.pfc_core.proofs.Tied.{by_bool, take_one}
 use Rattle.pfc_core.proofs.Weights.{weigh_out, kind_weight, slot_weight, sum_zero}
-use Rattle.pfc_core.proofs.Outs.{flight_by, weight_done, weight_waits}
+use Rattle.pfc_core.proofs.Outs.{flight_by}
 
 -- the pins of all that is out
 pub pins_on_is : (i t : ℕ) (h : Home) (stays readings pins : List Held) (slots : List Slot) → pins_on i t (out_of h stays readings pins slots) ≡ on i t pins

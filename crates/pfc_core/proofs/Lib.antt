@@ -1,9 +1,13 @@
 mod Entries
 mod Numbered
 mod Shelves
+mod Parts
 mod Tied
+mod Owned
 mod Kept
 mod Weights
 mod Outs
 mod Begun
 mod Leaving
+mod Looking
+mod Releasing

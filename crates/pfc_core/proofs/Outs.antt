@@ -1,19 +1,18 @@
 -- What the list of all that is out gains and loses.
-use Rattle.std.proofs.Common.{◌≡◌, ◌≢◌, ℕ, zero, suc, ◌+◌, ◌<◌, ◌≤◌, List, [], ◌∷◌, ◌++◌, length, map, sym, refl, ap, ◌∙◌, subst, arith, Bool, true, false, Option, Some, None, ◌==◌, ◌&&◌, eq-eqb, tests}
-use Rattle.std.specs.Prelude.{sum_by, count_by, flat_map, if◌then◌else◌}
-use Rattle.std.proofs.lemmas.List.Sums.{sum_by-cons, count_by-le-length}
+use Rattle.std.proofs.Common.{◌≡◌, ℕ, ◌+◌, List, [], ◌∷◌, length, sym, refl, ap, ◌∙◌, subst, arith, Bool, true, false, Option, Some, None, ◌==◌, ◌&&◌, eq-eqb, tests}
+use Rattle.std.specs.Prelude.{sum_by, count_by, if◌then◌else◌}
+use Rattle.std.proofs.lemmas.List.Sums.{sum_by-cons}
 use Rattle.pfc_log.specs.declared.entry.Entry.{Entry}
 use Rattle.pfc_log.specs.declared.start.Start.{Start}
-use Rattle.pfc_log.specs.Views.{place, Away, closed, opened}
 use Rattle.pfc_log.specs.Lawful.{IsComplete}
 use Rattle.pfc_core.specs.declared.slot.Slot.{Slot}
 use Rattle.pfc_core.specs.declared.held.Held.{Held}
 use Rattle.pfc_core.specs.Held.{Puts, Takes, is_held}
-use Rattle.pfc_core.specs.Marks.{Kind, StayKind, ReadingKind, TicketKind, PinKind, JobKind, kind_code, Mark, same, sees, listed, Gains, Loses, Swaps}
+use Rattle.pfc_core.specs.Marks.{Kind, StayKind, ReadingKind, TicketKind, PinKind, JobKind, kind_code, Mark, sees, listed, Gains, Loses, Swaps}
 use Rattle.pfc_core.specs.Slots.{slot_of, IsSingle, ShelfView, Changes, landed_slot, fresh_slot, bumped, lowered, done_slot}
-use Rattle.pfc_core.specs.Pins.{on, is_on, is_guest}
+use Rattle.pfc_core.specs.Pins.{on, is_guest}
 use Rattle.pfc_core.specs.Tied.{Fine, IsFine, IsAlive}
-use Rattle.pfc_core.specs.Out.{Home, mark_in, flight_of, flights_at, out_of}
+use Rattle.pfc_core.specs.Out.{Home, mark_in, flight_of, out_of}
 use Rattle.pfc_core.specs.Homes.{home_of}
 use Rattle.pfc_core.specs.View.{CoreView}
 use Rattle.pfc_core.specs.Kept.{IsHeld, AreIn}
@@ -21,7 +20,7 @@ use Rattle.pfc_core.specs.Calls.{foreign}
 use Rattle.std.proofs.lemmas.Bool.{eqb-true}
 use Rattle.pfc_core.proofs.Numbered.{held_is}
 use Rattle.pfc_core.proofs.Entries.{by_bool}
-use Rattle.pfc_core.proofs.Weights.{weigh_out, kind_weight, slot_weight, listed_in, other_kind, sum_zero, same_kind, same_instance, same_path, same_size, same_block_size, path_self, unseen, same_held}
+use Rattle.pfc_core.proofs.Weights.{weigh_out, slot_weight, listed_in, other_kind, sum_zero, same_kind, same_instance, same_path, same_size, same_block_size, path_self, unseen, same_held}
 
 module _ (h : Home) (readings pins : List Held) (slots : List Slot) where
   pub gains_stay : (p : Held) (stays more : List Held) → Puts stays p more → Gains (out_of h stays readings pins slots) (mark_in StayKind h p) (out_of h more readings pins slots)

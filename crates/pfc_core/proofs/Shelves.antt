@@ -1,5 +1,5 @@
 -- Slots and blocks, by number.
-use Rattle.std.proofs.Common.{◌≡◌, ◌≢◌, ℕ, ◌+◌, ◌<◌, ◌≤◌, List, [], ◌∷◌, length, map, sym, refl, ap, ◌∙◌, subst, arith, Bool, true, false, cond, Option, Some, None, ◌==◌, tests, eq-eqb, ne_eqb}
+use Rattle.std.proofs.Common.{◌≡◌, ℕ, ◌+◌, List, [], ◌∷◌, map, sym, refl, ap, ◌∙◌, subst, arith, Bool, cond, Option, Some, None, ◌==◌, tests, eq-eqb, ne_eqb}
 use Rattle.std.specs.Prelude.{IsSome, sum_by, nat_eq, if◌then◌else◌, option_map}
 use Rattle.std.specs.Map.{keys_of, values_of, lookup}
 use Rattle.std.specs.List.{IsDistinct}

@@ -1,10 +1,9 @@
 -- What an entry and a change of slots and pins do to what ties them.
-use Rattle.std.proofs.Common.{◌≡◌, ◌≢◌, ◌⊎◌, ℕ, zero, suc, ◌+◌, ◌<◌, ◌≤◌, ◌-◌, List, [], ◌∷◌, ◌++◌, length, take, set, remove, get_or, sym, refl, ap, ◌∙◌, subst, inl, inr, arith, Bool, true, false, Option, Some, None, if◌then◌else◌, ◌==◌, ◌&&◌, eq-eqb, ne_eqb, tests}
+use Rattle.std.proofs.Common.{◌≡◌, ◌≢◌, ◌⊎◌, ℕ, ◌+◌, ◌<◌, ◌≤◌, ◌-◌, List, [], ◌∷◌, ◌++◌, take, sym, refl, ap, ◌∙◌, subst, inl, inr, arith, Bool, true, false, Option, Some, None, if◌then◌else◌, ◌==◌, ◌&&◌, eq-eqb, ne_eqb, tests}
 use mathlib.Core.Logic.{dite}
 use native.Mathlib.Decide.{ℕ_discrete}
-use Rattle.std.proofs.lemmas.List.Sums.{sum_by_push, sum_by-remove}
 use Rattle.pfc_log.specs.declared.entry.Entry.{Entry}
-use Rattle.pfc_log.specs.declared.entry.Entry.TheVariants.{Opened, Closed, Begin, Join, Hit, Direct, Landed, Failed, Dropped, Wrote, Left, Served}
+use Rattle.pfc_log.specs.declared.entry.Entry.TheVariants.{Begin, Direct, Landed, Failed, Dropped, Left}
 use Rattle.pfc_log.specs.declared.entry.Fell.{Fell}
 use Rattle.pfc_log.specs.Views.{Place, Away, Flying, Here, place, moves, landing, failing, ending, times, begins, is_begin, is_landed, is_failed, is_lost, is_asked}
 use Rattle.pfc_log.proofs.More.{place_more, times_more, times_none, times_one}
@@ -15,7 +14,6 @@ use Rattle.pfc_core.specs.Pins.{on, waits, is_on, is_wait}
 use Rattle.pfc_core.specs.Held.{Puts, Takes}
 use Rattle.pfc_log.specs.declared.entry.Way.TheVariants.{Lost}
 use Rattle.pfc_log.specs.declared.entry.DropCause.{DropCause}
-use Rattle.std.specs.Prelude.{sum_by}
 use Rattle.pfc_core.specs.Tied.{IsTied, IsFine, Fine, ended}
 
 pub here : (b i : ℕ) (x a c : Option Slot) → c ≡ (if b == i then x else a) → b ≡ i → c ≡ x

@@ -1,17 +1,17 @@
 -- The marks of what is out, weighed.
-use Rattle.std.proofs.Common.{◌≡◌, ◌≢◌, ℕ, zero, suc, ◌+◌, ◌<◌, ◌≤◌, List, [], ◌∷◌, ◌++◌, length, map, sym, refl, ap, ◌∙◌, subst, arith, Bool, true, false, Option, Some, None, ◌==◌, ◌&&◌, tests, eq-eqb}
+use Rattle.std.proofs.Common.{◌≡◌, ℕ, ◌+◌, List, [], ◌∷◌, ◌++◌, map, sym, refl, ap, ◌∙◌, subst, arith, Bool, true, false, ◌==◌, ◌&&◌, eq-eqb}
 use Rattle.std.specs.Prelude.{sum_by, count_by, flat_map, if◌then◌else◌}
 use Rattle.std.specs.Cmp.Lexicographic.{pointwise}
+use Rattle.std.proofs.lemmas.Bool.{eqb-true}
 use Rattle.std.proofs.lemmas.Bool.Decides.{nat_tests}
 use Rattle.std.proofs.lemmas.List.Sums.{sum_by-cons, sum_by-append}
 use Rattle.pfc_core.specs.declared.slot.Slot.{Slot}
 use Rattle.pfc_core.specs.declared.held.Held.{Held}
 use Rattle.pfc_core.specs.Held.{is_held}
-use Rattle.pfc_core.specs.Marks.{Kind, StayKind, ReadingKind, TicketKind, PinKind, JobKind, kind_code, Mark, same, sees, listed}
-use Rattle.pfc_core.specs.Slots.{slot_of, IsSingle}
-use Rattle.pfc_core.specs.Out.{Home, mark_in, flight_of, flights_at, out_of}
+use Rattle.pfc_core.specs.Marks.{Kind, StayKind, ReadingKind, PinKind, kind_code, Mark, same, sees}
+use Rattle.pfc_core.specs.Out.{Home, mark_in, flights_at, out_of}
 use Rattle.pfc_core.proofs.Entries.{by_bool, sum_map}
-use Rattle.pfc_core.proofs.Numbered.{held_self, held_is}
+use Rattle.pfc_core.proofs.Numbered.{held_is}
 
 sum_flat : {X Y : Type 0} (w : Y → ℕ) (f : X → List Y) (xs : List X) → sum_by w (flat_map f xs) ≡ sum_by (λ x. sum_by w (f x)) xs
 sum_flat w f [] = refl
@@ -47,33 +47,57 @@ pub path_self : (a : List ℕ) → pointwise ◌==◌ a a ≡ true
 path_self [] = refl
 path_self (x ∷ xs) = let rest = path_self xs in grind (arith, nat_tests)
 
+both : (a b : Bool) → (a && b) ≡ true → (a ≡ true) × (b ≡ true)
+both true b h = (refl, h)
+both false b h = absurd cc
+
+-- each of ten tests passes where all do
+each : (a b c d e f g h i j : Bool) → (a && b && c && d && e && f && g && h && i && j) ≡ true → (a ≡ true) × (b ≡ true) × (c ≡ true) × (d ≡ true) × (e ≡ true) × (f ≡ true) × (g ≡ true) × (h ≡ true) × (i ≡ true) × (j ≡ true)
+each a b c d e f g h i j t =
+    let p9 = both (a && b && c && d && e && f && g && h && i) j t in
+    let p8 = both (a && b && c && d && e && f && g && h) i p9.0 in
+    let p7 = both (a && b && c && d && e && f && g) h p8.0 in
+    let p6 = both (a && b && c && d && e && f) g p7.0 in
+    let p5 = both (a && b && c && d && e) f p6.0 in
+    let p4 = both (a && b && c && d) e p5.0 in
+    let p3 = both (a && b && c) d p4.0 in
+    let p2 = both (a && b) c p3.0 in
+    let p1 = both a b p2.0 in
+    (p1.0, p1.1, p2.1, p3.1, p4.1, p5.1, p6.1, p7.1, p8.1, p9.1)
+
+parts : (m x : Mark) → same m x ≡ true → (kind_code m.kind == kind_code x.kind ≡ true) × (m.instance == x.instance ≡ true) × (pointwise ◌==◌ m.path x.path ≡ true) × (m.size == x.size ≡ true) × (m.block_size == x.block_size ≡ true) × (m.number == x.number ≡ true) × (m.client == x.client ≡ true) × (m.block == x.block ≡ true) × (m.flight == x.flight ≡ true) × (m.owner == x.owner ≡ true)
+parts m x h = each (kind_code m.kind == kind_code x.kind) (m.instance == x.instance) (pointwise ◌==◌ m.path x.path) (m.size == x.size) (m.block_size == x.block_size) (m.number == x.number) (m.client == x.client) (m.block == x.block) (m.flight == x.flight) (m.owner == x.owner) h
+
 -- marks that are one agree in each part
 pub same_kind : (m x : Mark) → same m x ≡ true → kind_code m.kind ≡ kind_code x.kind
-same_kind m x h = grind (arith, nat_tests)
+same_kind m x h = eqb-true _ _ (parts m x h).0
 
 pub same_instance : (m x : Mark) → same m x ≡ true → m.instance ≡ x.instance
-same_instance m x h = grind (arith, nat_tests)
+same_instance m x h = eqb-true _ _ (parts m x h).1
 
 pub same_path : (m x : Mark) → same m x ≡ true → m.path ≡ x.path
-same_path m x h = let p : pointwise ◌==◌ m.path x.path ≡ true = grind (arith, nat_tests) in path_is m.path x.path p
+same_path m x h = path_is m.path x.path (parts m x h).2
 
 pub same_size : (m x : Mark) → same m x ≡ true → m.size ≡ x.size
-same_size m x h = grind (arith, nat_tests)
+same_size m x h = eqb-true _ _ (parts m x h).3
 
 pub same_block_size : (m x : Mark) → same m x ≡ true → m.block_size ≡ x.block_size
-same_block_size m x h = grind (arith, nat_tests)
+same_block_size m x h = eqb-true _ _ (parts m x h).4
 
 pub same_number : (m x : Mark) → same m x ≡ true → m.number ≡ x.number
-same_number m x h = grind (arith, nat_tests)
+same_number m x h = eqb-true _ _ (parts m x h).5
 
 pub same_client : (m x : Mark) → same m x ≡ true → m.client ≡ x.client
-same_client m x h = grind (arith, nat_tests)
+same_client m x h = eqb-true _ _ (parts m x h).6
 
 pub same_block : (m x : Mark) → same m x ≡ true → m.block ≡ x.block
-same_block m x h = grind (arith, nat_tests)
+same_block m x h = eqb-true _ _ (parts m x h).7
 
 pub same_flight : (m x : Mark) → same m x ≡ true → m.flight ≡ x.flight
-same_flight m x h = grind (arith, nat_tests)
+same_flight m x h = eqb-true _ _ (parts m x h).8
+
+pub same_owner : (m x : Mark) → same m x ≡ true → m.owner ≡ x.owner
+same_owner m x h = eqb-true _ _ (parts m x h).9
 
 pub same_self : (m : Mark) → same m m ≡ true
 same_self m = let p = path_self m.path in grind (arith, nat_tests)
@@ -89,6 +113,7 @@ same_held kind h p q = both_ways (same (mark_in kind h p) (mark_in kind h q)) (i
     (λ yes.
     let a = same_number (mark_in kind h p) (mark_in kind h q) yes in let b = same_client (mark_in kind h p) (mark_in kind h q) yes in
     let c = same_block (mark_in kind h p) (mark_in kind h q) yes in let d = same_flight (mark_in kind h p) (mark_in kind h q) yes in
+    let e = same_owner (mark_in kind h p) (mark_in kind h q) yes in
     grind (arith, eq-eqb))
     (λ yes. subst (λ (r : Held). same (mark_in kind h p) (mark_in kind h r) ≡ true) (sym (held_is p q yes)) (same_self (mark_in kind h p)))
 

@@ -1,5 +1,5 @@
 -- What each call does.
-use Rattle.std.specs.Prelude.{◌≡◌, ◌<◌, ◌+◌, ◌⊎◌, ℕ, Bool, true, false, ◌==◌, ◌&&◌, List, [], ◌∷◌, ◌++◌, IsTrue, if◌then◌else◌, sum_by}
+use Rattle.std.specs.Prelude.{◌≡◌, ◌+◌, ◌⊎◌, ℕ, ◌==◌, ◌&&◌, [], ◌∷◌, ◌++◌, IsTrue, if◌then◌else◌, sum_by, Some}
 use Rattle.std.specs.Cmp.Lexicographic.{pointwise}
 use Rattle.pfc_log.specs.declared.entry.Entry.{Entry}
 use Rattle.pfc_log.specs.declared.entry.Entry.TheVariants.{Opened, Closed, Begin, Join, Hit, Landed, Failed, Dropped, Left}
@@ -7,8 +7,8 @@ use Rattle.pfc_log.specs.declared.entry.Spot.TheVariants.{Ram}
 use Rattle.pfc_log.specs.declared.entry.Fell.{Fell}
 use Rattle.pfc_log.specs.declared.entry.DropCause.{DropCause}
 use Rattle.pfc_log.specs.Lawful.{MayDrop}
-use Rattle.pfc_log.specs.Views.{Place, Away, place, begins}
-use Rattle.pfc_log.specs.declared.entry.Stranger.{Stranger}
+use Rattle.pfc_log.specs.Owners.{owner}
+use Rattle.pfc_log.specs.Views.{Away, place, begins}
 use Rattle.pfc_core.specs.declared.token.Strayed.{Strayed}
 use Rattle.pfc_core.specs.declared.token.Decision.{Decision}
 use Rattle.pfc_core.specs.declared.token.Decision.TheVariants.{Resident, Joined, Fetch}
@@ -51,10 +51,11 @@ pub record Begins (old : CoreView) (n : ℕ) (reading : Mark) (new : CoreView) :
   pub gains : Gains old.out reading new.out
   pub rest : new ≡ record old { out = new.out }
 
--- a pin for a client on a block, with an entry
+-- a pin for a client on a block whose flight the pin's owner began, with an entry
 pub record PinsOn (old : CoreView) (n i : ℕ) (pin : Mark) (e : Entry) (new : CoreView) : Type 0 where
   pub pins : IsOf old PinKind n pin
   pub block_is : pin.block ≡ i
+  pub owner_is : owner pin.flight old.entries ≡ Some pin.owner
   pub gains : Gains old.out pin new.out
   pub enters : new ≡ entered old e new.out
 
@@ -68,6 +69,8 @@ pub record Fetches (old : CoreView) (n i : ℕ) (ticket pin : Mark) (new : CoreV
   pub number_is : ticket.number ≡ begins old.entries
   pub ticket_flight : ticket.flight ≡ ticket.number
   pub pin_flight : pin.flight ≡ ticket.number
+  pub ticket_owner : ticket.owner ≡ n
+  pub pin_owner : pin.owner ≡ n
   pub gains : (w : Mark → ℕ) → sum_by w new.out ≡ sum_by w old.out + w ticket + w pin
   pub enters : new ≡ entered old (Begin ticket.number i n) new.out
 

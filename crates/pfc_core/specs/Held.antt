@@ -1,5 +1,5 @@
 -- Lists of tokens that are out, weighed.
-use Rattle.std.specs.Prelude.{◌≡◌, ℕ, ◌+◌, Bool, ◌==◌, ◌&&◌, List, count_by, sum_by}
+use Rattle.std.specs.Prelude.{◌≡◌, ℕ, ◌+◌, Bool, ◌==◌, ◌&&◌, List, sum_by}
 use Rattle.pfc_core.specs.declared.held.Held.{Held}
 
 -- the tokens of one kind, and for how many more there is room
@@ -9,7 +9,7 @@ pub record TokensView : Type 0 where
 
 -- whether it is this one, whole
 abbrev pub is_held : Held → Held → Bool
-is_held p q = q.number == p.number && q.client == p.client && q.block == p.block && q.flight == p.flight
+is_held p q = q.number == p.number && q.client == p.client && q.block == p.block && q.flight == p.flight && q.owner == p.owner
 
 -- new is old with one p more, in any order
 pub record Puts (old : List Held) (p : Held) (new : List Held) : Type 0 where

@@ -1,5 +1,5 @@
 -- What the fields of a core are.
-use Rattle.std.specs.Prelude.{◌≡◌, ℕ, ◌+◌, ◌*◌, ◌≤◌, ◌<◌, Bool, false, true, List, Option, Some, None, length, sum_by, count_by}
+use Rattle.std.specs.Prelude.{◌≡◌, ℕ, ◌+◌, ◌≤◌, ◌<◌, Bool, false, List, length, sum_by, count_by}
 use Rattle.pfc_base.specs.Block.{count_of}
 use Rattle.pfc_base.specs.BlockSet.{is_member}
 use Rattle.pfc_log.specs.declared.entry.Entry.{Entry}
@@ -10,8 +10,9 @@ use Rattle.pfc_core.specs.declared.slot.Slot.{Slot}
 use Rattle.pfc_core.specs.declared.held.Held.{Held}
 use Rattle.pfc_core.specs.declared.file.FileCore.TheInside.{Inside}
 use Rattle.pfc_core.specs.Pins.{is_guest}
-use Rattle.pfc_core.specs.Slots.{ShelfView, slot_of, room_of}
+use Rattle.pfc_core.specs.Slots.{slot_of, room_of}
 use Rattle.pfc_core.specs.Tied.{IsTied, IsAlive}
+use Rattle.pfc_core.specs.Owned.{IsOwned}
 use Rattle.pfc_core.specs.Out.{out_of}
 use Rattle.pfc_core.specs.Homes.{home_of}
 use Rattle.pfc_core.specs.View.{CoreView}
@@ -37,6 +38,7 @@ pub record IsHeld (first : Start) (es : List Entry) (begun : ℕ) (slots : List 
   pub well : IsWell first es begun
   pub tied : IsTied es (λ i. slot_of i slots) pins
   pub alive : (i : ℕ) → IsAlive (slot_of i slots)
+  pub owned : IsOwned es (λ i. slot_of i slots) pins
 
 -- the file is small enough, the log and the bitmap are as long as it has blocks, and nothing is stored yet
 pub record IsSized (first : Start) (set : List Bool) (size k : ℕ) : Type 0 where

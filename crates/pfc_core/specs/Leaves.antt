@@ -1,13 +1,11 @@
 -- Whether a block leaves memory with a pin.
-use Rattle.std.specs.Prelude.{ℕ, ◌+◌, Bool, true, false, ◌==◌, ◌&&◌, List, Option, Some, None, sum_by, count_by}
+use Rattle.std.specs.Prelude.{ℕ, Bool, false, ◌==◌, ◌&&◌, List, Option, Some, None, count_by}
 use Rattle.pfc_log.specs.declared.entry.Entry.{Entry}
 use Rattle.pfc_log.specs.declared.entry.DropCause.{DropCause}
 use Rattle.pfc_log.specs.declared.entry.DropCause.TheVariants as cause
-use Rattle.pfc_log.specs.Views.{Place, Away, Flying, Here, place}
+use Rattle.pfc_log.specs.Views.{Place, Flying, Here, place}
 use Rattle.pfc_core.specs.declared.slot.Slot.{Slot}
-use Rattle.pfc_core.specs.declared.held.Held.{Held}
-use Rattle.pfc_core.specs.Marks.{Mark, PinKind, kind_code}
-use Rattle.pfc_core.specs.Pins.{on}
+use Rattle.pfc_core.specs.Marks.{Mark, TicketKind, PinKind, kind_code}
 
 -- the block is in flight t
 abbrev pub is_flying_at : ℕ → Place → Bool
@@ -31,6 +29,14 @@ is_pin i t m = kind_code m.kind == kind_code PinKind && m.block == i && m.flight
 -- how many pins on flight t of block i are out
 abbrev pub pins_on : ℕ → ℕ → List Mark → ℕ
 pins_on i t out = count_by (is_pin i t) out
+
+-- the ticket of flight t of block i
+abbrev pub is_ticket : ℕ → ℕ → Mark → Bool
+is_ticket i t m = kind_code m.kind == kind_code TicketKind && m.block == i && m.flight == t
+
+-- how many tickets of flight t of block i are out
+abbrev pub tickets_on : ℕ → ℕ → List Mark → ℕ
+tickets_on i t out = count_by (is_ticket i t) out
 
 -- flight t of block i is done, and one pin is left on it
 abbrev pub leaves : List Entry → List Mark → ℕ → ℕ → Bool

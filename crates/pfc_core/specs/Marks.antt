@@ -16,8 +16,8 @@ kind_code TicketKind = 2
 kind_code PinKind = 3
 kind_code JobKind = 4
 
--- The core that gave it out, its number among those of its kind, whose it is, the file with its block size, and the
--- block and the flight that it is about. For a ticket and a job the number is the flight's.
+-- The core that gave it out, its number among those of its kind, whose it is, the file with its block size, the block and
+-- the flight that it is about, and the client that began the flight. For a ticket and a job the number is the flight's.
 pub record Mark : Type 0 where
   pub kind : Kind
   pub instance : ℕ
@@ -28,10 +28,11 @@ pub record Mark : Type 0 where
   pub block_size : ℕ
   pub block : ℕ
   pub flight : ℕ
+  pub owner : ℕ
 
 -- whether two marks are one, whole
 abbrev pub same : Mark → Mark → Bool
-same m x = kind_code m.kind == kind_code x.kind && m.instance == x.instance && pointwise ◌==◌ m.path x.path && m.size == x.size && m.block_size == x.block_size && m.number == x.number && m.client == x.client && m.block == x.block && m.flight == x.flight
+same m x = kind_code m.kind == kind_code x.kind && m.instance == x.instance && pointwise ◌==◌ m.path x.path && m.size == x.size && m.block_size == x.block_size && m.number == x.number && m.client == x.client && m.block == x.block && m.flight == x.flight && m.owner == x.owner
 
 -- 1 where it is this mark
 abbrev pub sees : Mark → Mark → ℕ

@@ -1,6 +1,6 @@
 -- The slots of a file's blocks.
-use Rattle.std.specs.Prelude.{◌≡◌, ℕ, ◌+◌, ◌-◌, Bool, true, false, ◌==◌, if◌then◌else◌, List, [], ◌∷◌, Option, Some, None, sum_by}
-use Rattle.pfc_log.specs.Views.{Place, Away, Flying, Here}
+use Rattle.std.specs.Prelude.{◌≡◌, ℕ, ◌+◌, ◌-◌, true, false, ◌==◌, if◌then◌else◌, List, [], ◌∷◌, Option, Some, None, sum_by}
+use Rattle.pfc_log.specs.Views.{Place, Flying, Here}
 use Rattle.pfc_core.specs.declared.slot.Slot.{Slot}
 
 -- the slots of one file

@@ -1,5 +1,5 @@
 -- What a token's tag says.
-use Rattle.std.specs.Prelude.{◌≡◌, ℕ}
+use Rattle.std.specs.Prelude.{◌≡◌}
 use Rattle.pfc_world.specs.declared.origin.World.{Ghosts}
 use Rattle.pfc_core.specs.declared.tag.Tag.{Tag}
 use Rattle.pfc_core.specs.Marks.{Kind, Mark}

@@ -1,7 +1,7 @@
 -- What ties slots and pins to the log.
-use Rattle.std.specs.Prelude.{◌≡◌, ℕ, ◌+◌, ◌<◌, ◌≤◌, ◌⊎◌, Bool, true, false, List, Option, Some, None}
+use Rattle.std.specs.Prelude.{◌≡◌, ℕ, ◌+◌, ◌<◌, ◌≤◌, ◌⊎◌, true, false, List, Option, Some, None}
 use Rattle.pfc_log.specs.declared.entry.Entry.{Entry}
-use Rattle.pfc_log.specs.Views.{Place, Away, place, times, begins, is_landed, is_failed, is_lost, is_asked}
+use Rattle.pfc_log.specs.Views.{Away, place, times, begins, is_landed, is_failed, is_lost, is_asked}
 use Rattle.pfc_core.specs.declared.slot.Slot.{Slot}
 use Rattle.pfc_core.specs.declared.held.Held.{Held}
 use Rattle.pfc_core.specs.Slots.{place_of, ticket_in}

@@ -1,5 +1,5 @@
 -- How tokens are kept.
-use Rattle.std.specs.Prelude.{◌≡◌, ℕ, ◌-◌, ◌^◌, ◌≤◌, ◌<◌, min, nat_eq, Option, Some, None, List}
+use Rattle.std.specs.Prelude.{◌≡◌, ℕ, ◌-◌, ◌^◌, ◌≤◌, min, nat_eq, Some, None}
 use Rattle.indexmap.specs.IndexMap.{get, values, spare, IsUnique}
 use Rattle.pfc_core.specs.declared.held.Held.{Held}
 use Rattle.pfc_core.specs.declared.held.Tokens.TheInside.{Inside}

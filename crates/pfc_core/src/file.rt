@@ -10,6 +10,7 @@ ghost use Rattle.pfc_core.specs.New.{IsNew};
 
 mod flights;
 mod pins;
+mod reads;
 
 use crate::held::Tokens;
 use crate::shelf::Shelf;
@@ -148,7 +149,8 @@ impl<W: World> FileCore<W> {
 
     /// The block size in bytes.
     pub fn block_size(&self) -> u64
-        ensures { result ≡ self.now.block_size }
+        ensures is { result ≡ self.now.block_size }
+        ensures most { result ≤ 16777216 }
     {
         self.shelf.block_size()
     }
@@ -171,7 +173,7 @@ impl<W: World> FileCore<W> {
             &self.pins,
             &self.shelf,
         )?;
-        let held = self.stays.add(n, 0, 0);
+        let held = self.stays.add(n, 0, 0, 0);
         self.log.push(Entry::Opened { client: n });
         Ok(Stay {
             tag: tag_of(self.instance, &self.shelf, held),
@@ -209,7 +211,7 @@ impl<W: World> FileCore<W> {
             &self.pins,
             &self.shelf,
         )?;
-        let held = self.readings.add(n, 0, 0);
+        let held = self.readings.add(n, 0, 0, 0);
         Ok(Reading {
             tag: tag_of(self.instance, &self.shelf, held),
         })

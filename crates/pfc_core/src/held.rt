@@ -8,14 +8,15 @@ use pfc_base::Memory;
 use std::alloc::Global;
 use std::marker::Model;
 
-/// What a core keeps of a token that is out: its number, whose it is, and the block and the flight that it is about, 0
-/// for those of no block.
+/// What a core keeps of a token that is out: its number, whose it is, the block and the flight that it is about, and the
+/// client that began the flight; 0 for those of no block.
 #[derive(Clone, Copy, Debug, PartialEq, Eq)]
 pub(crate) struct Held {
     pub number: u64,
     pub client: u32,
     pub block: u32,
     pub flight: u64,
+    pub owner: u32,
 }
 
 /// Whether both are one token.
@@ -26,6 +27,7 @@ pub(crate) fn is_same(held: Held, found: Held) -> bool
         && found.client == held.client
         && found.block == held.block
         && found.flight == held.flight
+        && found.owner == held.owner
 }
 
 #[derive(Drop)]
@@ -76,18 +78,20 @@ impl Tokens {
     }
 
     /// Gives out the next number.
-    pub fn add(&mut self, client: u32, block: u32, flight: u64) -> Held
+    pub fn add(&mut self, client: u32, block: u32, flight: u64, owner: u32) -> Held
         requires { 0 < self.old.room }
         ensures added { Puts self.old.list result self.new.list }
         ensures client { result.client ≡ client }
         ensures block { result.block ≡ block }
         ensures flight { result.flight ≡ flight }
+        ensures owner { result.owner ≡ owner }
     {
         let held = Held {
             number: self.next,
             client,
             block,
             flight,
+            owner,
         };
         self.next += 1;
         let _ = self.held.insert(held.number, held);

@@ -3,10 +3,16 @@
 
 mod file;
 mod held;
+mod leave;
+mod line;
+mod look;
 mod shelf;
 mod slot;
 mod tag;
 mod token;
 
 pub use file::{FileCore, Retired};
+pub use leave::Leave;
+pub use line::{Flight, Line};
+pub use look::Look;
 pub use token::{Decision, Job, Pin, Reading, Stay, Strayed, Ticket, Twin};

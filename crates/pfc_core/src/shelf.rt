@@ -11,7 +11,7 @@ ghost use Rattle.pfc_core.specs.Shelf.{IsBlock};
 use crate::held::{Held, is_same};
 use crate::slot::Slot;
 use indexmap::IndexMap;
-use pfc_base::Memory;
+use pfc_base::{Memory, Part};
 use pfc_world::{Block, Known, World};
 use std::alloc::Global;
 use std::marker::Model;
@@ -41,6 +41,19 @@ impl<W: World> Model for Shelf<W> {
     ghost view = { shelf_of };
 
     ghost invariant = { IsShelf };
+}
+
+/// Copies a part of the block.
+fn copy_part<W: World>(block: &Block<W>, part: Part, into: &mut [u8])
+    requires block { block.now.number ≡ part.block }
+    requires part { IsPartOf block.now.known.size block.now.block_size part }
+    requires into { length into.old ≡ part.len }
+    ensures bytes { Holds W.told W.files block.now.known.path (part.block * block.now.block_size + part.from) into.new }
+    ensures length { length into.new ≡ length into.old }
+{
+    let from = part.from as usize;
+    let end = from + part.len as usize;
+    into.copy_from_slice(&block.bytes()[from..end]);
 }
 
 impl<W: World> Shelf<W> {
@@ -122,6 +135,24 @@ impl<W: World> Shelf<W> {
         };
         place.slot = slot;
         place.block = Some(block);
+    }
+
+    /// Copies a part of a block that landed.
+    pub fn read(&self, slot: Slot, part: Part, into: &mut [u8])
+        requires there { slot_of part.block self.now.slots ≡ Some slot }
+        requires landed { slot.landed ≡ true }
+        requires part { IsPartOf self.now.size self.now.block_size part }
+        requires into { length into.old ≡ part.len }
+        ensures bytes { Holds W.told W.files self.now.path (part.block * self.now.block_size + part.from) into.new }
+        ensures length { length into.new ≡ length into.old }
+    {
+        let Some(place) = self.places.get(&part.block) else {
+            return;
+        };
+        let Some(block) = &place.block else {
+            return;
+        };
+        copy_part(block, part, into);
     }
 
     /// A block isn't kept any more.

@@ -76,6 +76,7 @@ impl Slot {
             client: self.client,
             block: self.block,
             flight: self.ticket,
+            owner: self.client,
         }
     }
 

@@ -1,6 +1,6 @@
 // Tokens: what a core gives out, and takes back once. Contracts see each as its mark. Those that must be spent can't be
 // dropped; `discard` ends one that no core takes.
-ghost use Rattle.std.specs.Prelude.{◌≡◌, ◌<◌, ◌≤◌, ℕ, MatchBool};
+ghost use Rattle.std.specs.Prelude.{◌≡◌, ◌<◌, ◌≤◌, ℕ, MatchBool, IfOk};
 ghost use Rattle.pfc_core.specs.Out.{Home, mark_in};
 ghost use Rattle.pfc_core.specs.Tags.{mark_of, IsAt};
 ghost use Rattle.pfc_core.specs.Homes.{home_of};
@@ -9,8 +9,10 @@ ghost use Rattle.pfc_core.specs.Blocks.{block_view, block_at};
 use crate::held::Held;
 use crate::shelf::Shelf;
 use crate::tag::Tag;
+use pfc_base::Memory;
 use pfc_log::{Mark, Stranger};
 use pfc_world::{Block, World};
+use std::alloc::Global;
 use std::marker::Model;
 use std::sync::Arc;
 
@@ -88,6 +90,13 @@ impl<W: World> Model for Reading<W> {
 }
 
 impl<W: World> Reading<W> {
+    /// The number of the core that gave it out.
+    pub fn instance(&self) -> u64
+        ensures { result ≡ self.now.instance }
+    {
+        self.tag.instance
+    }
+
     pub fn discard(self) {
         let Reading { tag } = self;
         drop(tag);
@@ -152,6 +161,18 @@ impl<W: World> Model for Twin<W> {
     ghost view = { λ t. block_view (arc_value t.one) };
 
     ghost invariant = { λ t. block_view (arc_value t.other) ≡ block_view (arc_value t.one) };
+}
+
+impl<W: World> Twin<W> {
+    pub(crate) fn of(alloc: Global, block: Block<W>) -> Result<Twin<W>, Memory>
+        ensures { IfOk result (λ twin. twin ≡ block_view block) }
+    {
+        let Ok(one) = Arc::new(alloc, block) else {
+            return Err(Memory);
+        };
+        let other = Arc::try_clone(&one)?;
+        Ok(Twin { one, other })
+    }
 }
 
 /// A landed block that is to be written.

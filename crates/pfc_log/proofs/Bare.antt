@@ -57,7 +57,7 @@ same_cause why (reason.Strayed who) es off h = elim h [
 
 direct_cause : (why : Uncached) (es : List Entry) → IsBare why es → (i n : ℕ) (cause : Way) → GoesDirect (start.Uncached why) es i n cause → cause ≡ way.Uncached why
 direct_cause why es was i n (way.Full f w l) row = absurd row.0
-direct_cause why es was i n (way.Lost t) row = absurd (omega (arith, row.0, was.landed t))
+direct_cause why es was i n (way.Lost t) row = absurd (omega (arith, row.failed, was.landed t))
 direct_cause why es was i n way.Device row = absurd (omega (arith, row, was.found i n))
 direct_cause why es was i n (way.Uncached cause) row = same_cause why cause es was.off row
 

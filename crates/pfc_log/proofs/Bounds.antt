@@ -19,7 +19,7 @@ both true b h = (refl, h)
 both false b h = absurd cc
 
 lost_way : (first : Start) (es : List Entry) (i n t : ℕ) (why : Way) → is_lost_way t why ≡ true → GoesDirect first es i n why → times (is_lost i n t) es < times (is_asked i n t) es
-lost_way first es i n t (way.Lost u) h row = subst (λ (v : ℕ). times (is_lost i n v) es < times (is_asked i n v) es) (same_number u t h) row.1
+lost_way first es i n t (way.Lost u) h row = subst (λ (v : ℕ). times (is_lost i n v) es < times (is_asked i n v) es) (same_number u t h) row.fewer
 lost_way first es i n t (way.Full f w l) h row = absurd cc
 lost_way first es i n t way.Device h row = absurd cc
 lost_way first es i n t (way.Uncached why) h row = absurd cc

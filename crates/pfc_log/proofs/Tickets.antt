@@ -156,6 +156,10 @@ pub owners_length : (es : List Entry) → length (owners es) ≡ begins es
 owners_length es = from_end (λ (l : List Entry). length (owners l) ≡ begins l) refl
     (λ xs x was. ap length (owners_more xs x) ∙ owning_length (owners xs) x ∙ ap (λ (a : ℕ). a + (if is_begin x then 1 else 0)) was ∙ sym (times_more is_begin xs x)) es
 
+-- a flight that begins is its client's
+pub owner_new : (es : List Entry) (t i n : ℕ) → t ≡ begins es → owner t (es ++ e.Begin t i n ∷ []) ≡ Some n
+owner_new es t i n is = ap (λ (ns : List ℕ). slice_get ns t) (owners_more es (e.Begin t i n)) ∙ ap (λ (k : ℕ). slice_get (owners es ++ n ∷ []) k) (is ∙ sym (owners_length es)) ∙ get_new (owners es) n
+
 -- in a lawful log the owner of a flight is the client of the entry that began it
 pub owner_begun : (first : Start) (es : List Entry) → Lawful first es → (p t i n : ℕ) → StandsAt es p (e.Begin t i n) → owner t es ≡ Some n
 owner_begun first = along first (λ (l : List Entry). (p t i n : ℕ) → StandsAt l p (e.Begin t i n) → owner t l ≡ Some n)
@@ -164,6 +168,5 @@ owner_begun first = along first (λ (l : List Entry). (p t i n : ℕ) → Stands
       | inl w ↦ owner_more xs x t n (was p t i n w)
       | inr w ↦
           let may : MayBegin first xs t i = subst (λ (f : Entry). Row first xs f) (sym w.0) row in
-          ap (λ (f : Entry). owner t (xs ++ f ∷ [])) (sym w.0) ∙ ap (λ (ns : List ℕ). slice_get ns t) (owners_more xs (e.Begin t i n))
-          ∙ ap (λ (k : ℕ). slice_get (owners xs ++ n ∷ []) k) (may.number ∙ sym (owners_length xs)) ∙ get_new (owners xs) n
+          ap (λ (f : Entry). owner t (xs ++ f ∷ [])) (sym w.0) ∙ owner_new xs t i n may.number
     ])

@@ -12,6 +12,7 @@ use Rattle.pfc_log.specs.declared.entry.Uncached.{Uncached}
 use Rattle.pfc_log.specs.declared.entry.Uncached.TheVariants.{Strayed}
 use Rattle.pfc_log.specs.declared.start.Start.{Start}
 use Rattle.pfc_log.specs.declared.start.Start.TheVariants as start
+use Rattle.pfc_log.specs.Owners.{owner, is_client}
 use Rattle.pfc_log.specs.Views.{Away, Flying, Here, place, is_here, IsFlying, times, is_asked, is_lost, is_failed, is_device, is_disk_hit, is_frozen, is_written_off, opened, closed, begins, durable, stored, count_below, bound, last_claim}
 
 -- the log starts with a store
@@ -32,12 +33,19 @@ abbrev pub IsUncached : Start → List Entry → Uncached → Type 0
 IsUncached first es (Strayed who) = (first ≡ start.Uncached (Strayed who)) ⊎ (0 < times is_written_off es)
 IsUncached first es why = first ≡ start.Uncached why
 
--- Client n may read block i from the origin, by the cause: the budget had no room for the block; a flight for which the
--- client waited failed, and it has read less often for that than it asked; a block that the client found on disk
--- couldn't be read, and it has read less often for that than it found it; the file is uncached.
+-- flight t of block i failed client n: it failed, another client had begun it, and the client has read less often from the
+-- origin for that than it asked
+pub record IsLost (es : List Entry) (i n t : ℕ) : Type 0 where
+  pub failed : 0 < times (is_failed t) es
+  pub fewer : times (is_lost i n t) es < times (is_asked i n t) es
+  pub other : IsFalse (is_client n (owner t es))
+
+-- Client n may read block i from the origin, by the cause: the budget had no room for the block; a flight of another client
+-- for which the client waited failed; a block that the client found on disk couldn't be read, and it has read less often
+-- for that than it found it; the file is uncached.
 abbrev pub GoesDirect : Start → List Entry → ℕ → ℕ → Way → Type 0
 GoesDirect first es i n (way.Full found want limit) = IsCached first × (limit < found + want)
-GoesDirect first es i n (way.Lost t) = (0 < times (is_failed t) es) × (times (is_lost i n t) es < times (is_asked i n t) es)
+GoesDirect first es i n (way.Lost t) = IsLost es i n t
 GoesDirect first es i n way.Device = times (is_device i n) es < times (is_disk_hit i n) es
 GoesDirect first es i n (way.Uncached why) = IsUncached first es why
 

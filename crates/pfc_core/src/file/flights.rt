@@ -34,7 +34,7 @@ impl<W: World> FileCore<W> {
         let block = part.block;
         let Some(slot) = self.shelf.find(block) else {
             self.shelf.begin(Slot::fresh(block, ticket, n))?;
-            let pin = self.pins.add(n, block, ticket);
+            let pin = self.pins.add(n, block, ticket, n);
             self.log.push(Entry::Begin {
                 ticket,
                 block,
@@ -46,6 +46,7 @@ impl<W: World> FileCore<W> {
                 client: n,
                 block,
                 flight: ticket,
+                owner: n,
             };
             let ticket = Ticket {
                 tag: tag_of(self.instance, &self.shelf, held),
@@ -56,7 +57,7 @@ impl<W: World> FileCore<W> {
             return Ok(Decision::Fetch(ticket, pin));
         };
         self.shelf.change(slot, slot.pinned());
-        let held = self.pins.add(n, block, slot.ticket);
+        let held = self.pins.add(n, block, slot.ticket, slot.client);
         let pin = Pin {
             tag: tag_of(self.instance, &self.shelf, held),
         };

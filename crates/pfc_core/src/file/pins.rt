@@ -1,8 +1,9 @@
 // Pins and jobs: how a block that landed leaves memory.
-ghost use Rattle.std.specs.Prelude.{◌≡◌, ◌+◌, ◌<◌, ◌≤◌, ◌^◌, ℕ, IfOk, OnOk, OnErr, IfErr};
+ghost use Rattle.std.specs.Prelude.{◌≡◌, ◌+◌, ◌<◌, ◌≤◌, ◌^◌, ℕ, IfOk, OnOk, OnErr, IfErr, IsTrue, false};
 ghost use Rattle.std.specs.Prelude.{MatchBool};
 ghost use Rattle.pfc_log.specs.declared.entry.DropCause.TheVariants as cause;
 ghost use Rattle.pfc_core.specs.Leaves.{IsOtherCause};
+ghost use Rattle.pfc_core.specs.Marks.{listed};
 ghost use Rattle.pfc_core.specs.Calls.{Unpins, Drops, Strays, StraysJob};
 
 use super::FileCore;
@@ -28,26 +29,38 @@ impl<W: World> FileCore<W> {
         ensures strayed { IfErr result (λ s. Strays self.old pin pin s self.new) }
     {
         let why = stranger(&pin.tag, self.instance);
+        if self.release(&pin) {
+            return Ok(());
+        }
+        Err(Strayed { token: pin, why })
+    }
+
+    /// Takes a pin out of the list, if it is there.
+    pub(super) fn release(&mut self, pin: &Pin<W>) -> bool
+        ensures yes { IsTrue result → Unpins self.old pin.now self.new }
+        ensures no { result ≡ false → listed pin.now self.old.out ≡ 0 }
+        ensures same { result ≡ false → self.new ≡ self.old }
+    {
         if !is_of(&pin.tag, self.instance, &self.shelf) {
-            return Err(Strayed { token: pin, why });
+            return false;
         }
         let held = pin.tag.held;
         if !self.pins.take(held) {
-            return Err(Strayed { token: pin, why });
+            return false;
         }
         let Some(slot) = self.shelf.find(held.block) else {
-            return Ok(());
+            return true;
         };
         if slot.ticket != held.flight {
-            return Ok(());
+            return true;
         }
         if slot.is_last() {
             self.shelf.remove(slot);
             self.log.push(Entry::Left { block: held.block });
-            return Ok(());
+            return true;
         }
         self.shelf.change(slot, slot.unpinned());
-        Ok(())
+        true
     }
 
     /// Ends a job whose block won't be written. A block on which no pin is left leaves memory at once.

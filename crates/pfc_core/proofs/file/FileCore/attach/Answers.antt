@@ -1,16 +1,12 @@
-use Rattle.std.proofs.Common.{refl, ◌≡◌, ◌∙◌, sym, ap, subst, rules, arith, List, [], ◌∷◌, ◌++◌, length, true, false, Bool, ◌<◌, ◌≤◌, ℕ}
-use Rattle.std.specs.Prelude.{count_by, sum_by}
-use Rattle.pfc_log.specs.declared.entry.Entry.TheVariants.{Opened, Closed}
+use Rattle.std.proofs.Common.{refl, ◌∙◌, ap, subst, arith, List}
+use Rattle.pfc_log.specs.declared.entry.Entry.TheVariants.{Opened}
 use Rattle.pfc_core.specs.declared.held.Held.{Held}
-use Rattle.pfc_core.specs.Marks.{Mark, StayKind, ReadingKind, Gains, Loses, listed}
-use Rattle.pfc_core.specs.Held.{Takes, Puts, is_held}
-use Rattle.pfc_core.specs.Out.{Home, mark_in}
-use Rattle.pfc_core.specs.Tags.{home_in, IsAt, mark_of}
+use Rattle.pfc_core.specs.Marks.{StayKind}
+use Rattle.pfc_core.specs.Held.{Puts}
+use Rattle.pfc_core.specs.Out.{Home}
 use Rattle.pfc_core.specs.Homes.{home_of}
-use Rattle.pfc_core.specs.View.{CoreView}
-use Rattle.pfc_core.specs.Kept.{view_of}
-use Rattle.pfc_core.proofs.Kept.{quiet_kept, in_open, in_close, close_row, in_more, room_at_most, puts_length, takes_length}
-use Rattle.pfc_core.proofs.Outs.{gains_stay, loses_stay, unlisted_stay, gains_reading, unlisted_elsewhere, mark_at}
+use Rattle.pfc_core.proofs.Kept.{quiet_kept, in_open, room_at_most, puts_length}
+use Rattle.pfc_core.proofs.Outs.{gains_stay, mark_at}
 use Rattle.pfc_core.proofs.file.FileCore.attach.Goals as goal
 
 pub invariant_of-self-2 : goal.invariant_of-self-2

@@ -1,16 +1,15 @@
-use Rattle.std.proofs.Common.{refl, ◌≡◌, ◌≢◌, ◌∙◌, sym, ap, subst, rules, arith, List, [], ◌∷◌, ◌++◌, length, true, false, Bool, ◌<◌, ◌≤◌, ℕ, Option, Some, None, eq-eqb}
-use Rattle.std.specs.Prelude.{count_by, sum_by}
-use Rattle.pfc_log.specs.Views.{bound, Place, place}
+use Rattle.std.proofs.Common.{refl, ◌≡◌, ◌∙◌, sym, ap, subst, rules, arith, List, true, false, ◌<◌, ℕ, Some, None, eq-eqb}
+use Rattle.pfc_log.specs.Owners.{owner}
+use Rattle.pfc_log.specs.Views.{bound}
 use Rattle.pfc_core.specs.declared.held.Held.{Held}
 use Rattle.pfc_core.specs.declared.slot.Slot.{Slot}
-use Rattle.pfc_core.specs.Marks.{Mark, TicketKind, JobKind, PinKind, Gains, Loses, listed}
-use Rattle.pfc_core.specs.Held.{Takes, Puts, is_held}
+use Rattle.pfc_core.specs.Marks.{TicketKind, PinKind}
+use Rattle.pfc_core.specs.Held.{Puts}
 use Rattle.pfc_core.specs.Leaves.{is_here_at, is_flying_at}
-use Rattle.pfc_core.specs.Slots.{slot_of, Changes, ShelfView, room_of, landed_slot, done_slot, bumped, lowered, fresh_slot}
-use Rattle.pfc_core.specs.Out.{Home, mark_in, flight_of, out_of}
-use Rattle.pfc_core.specs.Tags.{home_in, IsAt, mark_of}
+use Rattle.pfc_core.specs.Slots.{slot_of, Changes, room_of, bumped, fresh_slot}
+use Rattle.pfc_core.specs.Out.{Home, out_of}
+use Rattle.pfc_core.specs.Tags.{home_in}
 use Rattle.pfc_core.specs.Homes.{home_of}
-use Rattle.pfc_core.specs.View.{CoreView}
 use Rattle.pfc_core.specs.Kept.{view_of}
 use Rattle.pfc_core.proofs.Kept.{begin_kept, hit_kept, join_kept, in_more, room_at_most, puts_length, away_at, here_at, flying_at}
 use Rattle.pfc_core.proofs.Outs.{fetch_gains, pin_gains, home_moved, gains_at, mark_at}
@@ -23,7 +22,7 @@ invariant_of-self-in_default g c = let s = c.self.inside in let was = c.self.inv
     let put : Puts s.pins.list c.add-pin.result c.add-pin.new.self.list = subst (λ (l : List Held). Puts l c.add-pin.result c.add-pin.new.self.list) c.make_room.ensures.list c.add-pin.ensures.added in
     let low : b < bound s.log.first = subst (λ (k : ℕ). b < k) (sym was.sized.start) (rw (← c.self.view_is) at c.requires.block) in
     let room = c.in_ok-make_room.ensures.room in record {
-      held = rw (c.push.ensures, c.make_room.ensures.first, c.make_room.ensures.entries) (begin_kept _ _ _ s.shelf.slots c.begin.new.self.slots s.pins.list c.add-pin.new.self.list b n c.add-pin.result was.held put none moved.at c.add-pin.ensures.block c.add-pin.ensures.flight c.add-pin.ensures.client low);
+      held = rw (c.push.ensures, c.make_room.ensures.first, c.make_room.ensures.entries) (begin_kept _ _ _ s.shelf.slots c.begin.new.self.slots s.pins.list c.add-pin.new.self.list b n c.add-pin.result was.held put none moved.at c.add-pin.ensures.block c.add-pin.ensures.flight c.add-pin.ensures.client c.add-pin.ensures.owner low);
       guests = rw (c.push.ensures, c.make_room.ensures.entries) (in_more _ _ _ was.guests (λ n. (refl, refl)));
       room = rw c.push.ensures (omega (arith, room, room_at_most s.shelf.slots, puts_length _ _ _ put, moved.weighs room_of));
       sized = rw (c.push.ensures, c.make_room.ensures.first, moved.size, moved.block_size) was.sized;
@@ -46,6 +45,8 @@ returns-in_default-clause-ok g c = let s = c.self.inside in let was = c.self.inv
       number_is = ap (λ (p : Held). p.number) c.tag_of.ensures.held ∙ was.held.well.begun_is;
       ticket_flight = ap (λ (p : Held). p.flight) c.tag_of.ensures.held ∙ sym (ap (λ (p : Held). p.number) c.tag_of.ensures.held);
       pin_flight = ap (λ (p : Held). p.flight) c.tag_of-in_default.ensures.held ∙ c.add-pin.ensures.flight ∙ sym (ap (λ (p : Held). p.number) c.tag_of.ensures.held);
+      ticket_owner = ap (λ (p : Held). p.owner) c.tag_of.ensures.held;
+      pin_owner = ap (λ (p : Held). p.owner) c.tag_of-in_default.ensures.held ∙ c.add-pin.ensures.owner;
       gains = λ w. (let ticket = ap w (mark_at TicketKind _ _ _ _ at c.tag_of.ensures.held) in let pin = ap w (mark_at PinKind _ _ _ _ pin_at c.tag_of-in_default.ensures.held) in
           let all = fetch_gains h s.stays.list s.readings.list s.pins.list c.add-pin.new.self.list c.add-pin.result s.shelf c.begin.new.self put b t n moved w in omega (arith, ticket, pin, all));
       enters = rw (c.push.ensures, c.make_room.ensures.first, c.make_room.ensures.entries, ap (λ (p : Held). p.number) c.tag_of.ensures.held) refl;
@@ -57,7 +58,7 @@ invariant_of-self-then-slot g c = let s = c.self.inside in let was = c.self.inva
     let moved : Changes b (Some x) (Some (bumped x)) s.shelf c.change.new.self = subst (λ (k : ℕ). Changes k (Some x) (Some (bumped x)) s.shelf c.change.new.self) block (subst (λ (y : Slot). Changes y.block (Some x) (Some y) s.shelf c.change.new.self) c.pinned.ensures c.change.ensures) in
     let put : Puts s.pins.list c.add-held.result c.add-held.new.self.list = subst (λ (l : List Held). Puts l c.add-held.result c.add-held.new.self.list) c.make_room.ensures.list c.add-held.ensures.added in
     let room = c.in_ok-make_room.ensures.room in record {
-      held = rw (c.push-then-slot.ensures, c.make_room.ensures.first, c.make_room.ensures.entries) (rw c.add-held.ensures.client at (hit_kept s.log.first s.log.entries s.begun s.shelf.slots c.change.new.self.slots s.pins.list c.add-held.new.self.list b x c.add-held.result was.held put there moved.at c.add-held.ensures.block c.add-held.ensures.flight landed));
+      held = rw (c.push-then-slot.ensures, c.make_room.ensures.first, c.make_room.ensures.entries) (rw c.add-held.ensures.client at (hit_kept s.log.first s.log.entries s.begun s.shelf.slots c.change.new.self.slots s.pins.list c.add-held.new.self.list b x c.add-held.result was.held put there moved.at c.add-held.ensures.block c.add-held.ensures.flight c.add-held.ensures.owner landed));
       guests = rw (c.push-then-slot.ensures, c.make_room.ensures.entries) (in_more _ _ _ was.guests (λ n. (refl, refl)));
       room = rw c.push-then-slot.ensures (let same : room_of (bumped x) ≡ room_of x = refl in omega (arith, room, room_at_most s.shelf.slots, puts_length _ _ _ put, moved.weighs room_of, same));
       sized = rw (c.push-then-slot.ensures, c.make_room.ensures.first, moved.size, moved.block_size) was.sized;
@@ -76,6 +77,7 @@ returns-then-slot-clause-ok g c = let s = c.self.inside in let was = c.self.inva
       record {
         pins = record { kind_is = refl; instance_is = ap (λ (h : Home). h.instance) at; path_is = ap (λ (h : Home). h.path) at; size_is = ap (λ (h : Home). h.size) at; block_size_is = ap (λ (h : Home). h.block_size) at; client_is = ap (λ (p : Held). p.client) c.tag_of-2.ensures.held ∙ c.add-held.ensures.client };
         block_is = ap (λ (p : Held). p.block) c.tag_of-2.ensures.held ∙ c.add-held.ensures.block;
+        owner_is = ap (λ (t : ℕ). owner t s.log.entries) (sym flight) ∙ was.held.owned.slot b x there ∙ ap (λ (m : ℕ). Some m) (sym (ap (λ (p : Held). p.owner) c.tag_of-2.ensures.held ∙ c.add-held.ensures.owner));
         gains = gains_at PinKind (home_in c.tag_of-2.result) h c.tag_of-2.result.held c.add-held.result (view_of s).out (out_of h s.stays.list s.readings.list c.add-held.new.self.list c.change.new.self.slots) at c.tag_of-2.ensures.held (pin_gains h s.stays.list s.readings.list s.pins.list c.add-held.new.self.list c.add-held.result s.shelf c.change.new.self put b x moved);
         enters = rw (c.push-then-slot.ensures, c.make_room.ensures.first, c.make_room.ensures.entries) refl;
       },
@@ -87,7 +89,7 @@ invariant_of-self-2 g c = let s = c.self.inside in let was = c.self.invariant in
     let moved : Changes b (Some x) (Some (bumped x)) s.shelf c.change.new.self = subst (λ (k : ℕ). Changes k (Some x) (Some (bumped x)) s.shelf c.change.new.self) block (subst (λ (y : Slot). Changes y.block (Some x) (Some y) s.shelf c.change.new.self) c.pinned.ensures c.change.ensures) in
     let put : Puts s.pins.list c.add-held.result c.add-held.new.self.list = subst (λ (l : List Held). Puts l c.add-held.result c.add-held.new.self.list) c.make_room.ensures.list c.add-held.ensures.added in
     let room = c.in_ok-make_room.ensures.room in record {
-      held = rw (c.push-2.ensures, c.make_room.ensures.first, c.make_room.ensures.entries) (rw c.add-held.ensures.client at (join_kept s.log.first s.log.entries s.begun s.shelf.slots c.change.new.self.slots s.pins.list c.add-held.new.self.list b x c.add-held.result was.held put there moved.at c.add-held.ensures.block c.add-held.ensures.flight landed));
+      held = rw (c.push-2.ensures, c.make_room.ensures.first, c.make_room.ensures.entries) (rw c.add-held.ensures.client at (join_kept s.log.first s.log.entries s.begun s.shelf.slots c.change.new.self.slots s.pins.list c.add-held.new.self.list b x c.add-held.result was.held put there moved.at c.add-held.ensures.block c.add-held.ensures.flight c.add-held.ensures.owner landed));
       guests = rw (c.push-2.ensures, c.make_room.ensures.entries) (in_more _ _ _ was.guests (λ n. (refl, refl)));
       room = rw c.push-2.ensures (let same : room_of (bumped x) ≡ room_of x = refl in omega (arith, room, room_at_most s.shelf.slots, puts_length _ _ _ put, moved.weighs room_of, same));
       sized = rw (c.push-2.ensures, c.make_room.ensures.first, moved.size, moved.block_size) was.sized;
@@ -106,6 +108,7 @@ returns-clause-ok g c = let s = c.self.inside in let was = c.self.invariant in l
       record {
         pins = record { kind_is = refl; instance_is = ap (λ (h : Home). h.instance) at; path_is = ap (λ (h : Home). h.path) at; size_is = ap (λ (h : Home). h.size) at; block_size_is = ap (λ (h : Home). h.block_size) at; client_is = ap (λ (p : Held). p.client) c.tag_of-2.ensures.held ∙ c.add-held.ensures.client };
         block_is = ap (λ (p : Held). p.block) c.tag_of-2.ensures.held ∙ c.add-held.ensures.block;
+        owner_is = ap (λ (t : ℕ). owner t s.log.entries) (sym flight) ∙ was.held.owned.slot b x there ∙ ap (λ (m : ℕ). Some m) (sym (ap (λ (p : Held). p.owner) c.tag_of-2.ensures.held ∙ c.add-held.ensures.owner));
         gains = gains_at PinKind (home_in c.tag_of-2.result) h c.tag_of-2.result.held c.add-held.result (view_of s).out (out_of h s.stays.list s.readings.list c.add-held.new.self.list c.change.new.self.slots) at c.tag_of-2.ensures.held (pin_gains h s.stays.list s.readings.list s.pins.list c.add-held.new.self.list c.add-held.result s.shelf c.change.new.self put b x moved);
         enters = rw (c.push-2.ensures, c.make_room.ensures.first, c.make_room.ensures.entries, flight) refl;
       },

@@ -1,17 +1,14 @@
-use Rattle.std.proofs.Common.{refl, ◌≡◌, ◌≢◌, ◌∙◌, sym, ap, subst, rules, arith, List, [], ◌∷◌, ◌++◌, length, true, false, Bool, ◌<◌, ◌≤◌, ℕ, Option, Some, None, eq-eqb, ne_eqb, ◌==◌, if◌then◌else◌, inl}
-use Rattle.std.specs.Prelude.{count_by, sum_by}
+use Rattle.std.proofs.Common.{refl, ◌≡◌, ◌≢◌, ◌∙◌, sym, ap, subst, rules, arith, [], ◌∷◌, ◌++◌, true, false, Bool, ℕ, Some, None, eq-eqb, ne_eqb, ◌==◌, if◌then◌else◌, inl}
 use Rattle.pfc_log.specs.declared.entry.Entry.TheVariants.{Left, Dropped}
 use Rattle.pfc_log.specs.Lawful.{MayDrop}
 use Rattle.pfc_core.specs.declared.held.Held.{Held}
 use Rattle.pfc_core.specs.declared.slot.Slot.{Slot}
-use Rattle.pfc_core.specs.Marks.{Mark, TicketKind, JobKind, PinKind, Gains, Loses, listed}
-use Rattle.pfc_core.specs.Held.{Takes, Puts, is_held}
-use Rattle.pfc_core.specs.Leaves.{leaves, pins_on}
-use Rattle.pfc_core.specs.Slots.{slot_of, Changes, ShelfView, room_of, done_slot, lowered}
-use Rattle.pfc_core.specs.Out.{Home, mark_in, flight_of, out_of}
-use Rattle.pfc_core.specs.Tags.{home_in, IsAt, mark_of}
+use Rattle.pfc_core.specs.Marks.{JobKind}
+use Rattle.pfc_core.specs.Leaves.{pins_on}
+use Rattle.pfc_core.specs.Slots.{slot_of, Changes, room_of, done_slot}
+use Rattle.pfc_core.specs.Out.{flight_of, out_of}
+use Rattle.pfc_core.specs.Tags.{home_in}
 use Rattle.pfc_core.specs.Homes.{home_of}
-use Rattle.pfc_core.specs.View.{CoreView}
 use Rattle.pfc_core.specs.Kept.{view_of}
 use Rattle.pfc_core.proofs.Kept.{drop_kept, drop_left_kept, in_more, room_waits, room_done, slot_in_sum}
 use Rattle.pfc_core.proofs.Leaving.{pins_on_is, pins_are, may_drop}

@@ -1,14 +1,11 @@
-use Rattle.std.proofs.Common.{refl, ◌≡◌, ◌≢◌, ◌∙◌, sym, ap, subst, rules, arith, List, [], ◌∷◌, ◌++◌, length, true, false, Bool, ◌<◌, ◌≤◌, ℕ, Option, Some, None}
-use Rattle.std.specs.Prelude.{count_by, sum_by}
+use Rattle.std.proofs.Common.{refl, ◌≡◌, sym, ap, subst, rules, arith, false, ℕ, Some}
 use Rattle.pfc_core.specs.declared.held.Held.{Held}
 use Rattle.pfc_core.specs.declared.slot.Slot.{Slot}
-use Rattle.pfc_core.specs.Marks.{Mark, TicketKind, JobKind, PinKind, Gains, Loses, listed}
-use Rattle.pfc_core.specs.Held.{Takes, Puts, is_held}
-use Rattle.pfc_core.specs.Slots.{slot_of, Changes, ShelfView, room_of, landed_slot, done_slot, bumped, lowered, fresh_slot}
-use Rattle.pfc_core.specs.Out.{Home, mark_in, flight_of, out_of}
-use Rattle.pfc_core.specs.Tags.{home_in, IsAt, mark_of}
+use Rattle.pfc_core.specs.Marks.{TicketKind}
+use Rattle.pfc_core.specs.Slots.{slot_of, Changes, room_of, landed_slot}
+use Rattle.pfc_core.specs.Out.{flight_of, out_of}
+use Rattle.pfc_core.specs.Tags.{home_in}
 use Rattle.pfc_core.specs.Homes.{home_of}
-use Rattle.pfc_core.specs.View.{CoreView}
 use Rattle.pfc_core.specs.Kept.{view_of}
 use Rattle.pfc_core.proofs.Kept.{land_kept, in_more, room_flying}
 use Rattle.pfc_core.proofs.Outs.{land_swaps, swaps_at, unlisted_ticket, unlisted_elsewhere, at_home}

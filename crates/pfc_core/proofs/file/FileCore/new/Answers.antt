@@ -1,4 +1,4 @@
-use Rattle.std.proofs.Common.{refl, ◌≡◌, ◌∙◌, sym, ap, rules, arith, List, [], length, true, false, Bool, ℕ}
+use Rattle.std.proofs.Common.{◌≡◌, ◌∙◌, ap, arith, false, ℕ}
 use Rattle.pfc_base.specs.Block.{count_of}
 use Rattle.std.proofs.lemmas.List.{length-replicate}
 use Rattle.pfc_core.proofs.Begun.{none_member, new_held, new_in}

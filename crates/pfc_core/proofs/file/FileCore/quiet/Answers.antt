@@ -1,4 +1,4 @@
-use Rattle.std.proofs.Common.{refl, ◌≡◌, ◌∙◌, sym, ap, rules, arith, List, [], length, true, false, Bool}
+use Rattle.std.proofs.Common.{◌∙◌, sym, ap, length}
 use Rattle.pfc_core.specs.declared.held.Held.{Held}
 use Rattle.pfc_core.specs.declared.slot.Slot.{Slot}
 use Rattle.pfc_core.proofs.Outs.{zeros_of, all_zeros, nil_of, nothing_of, nothing_out, complete_of}

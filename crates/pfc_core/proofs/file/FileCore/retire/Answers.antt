@@ -1,4 +1,4 @@
-use Rattle.std.proofs.Common.{refl, ◌≡◌, rules}
+use Rattle.std.proofs.Common.{refl, rules}
 use Rattle.pfc_core.proofs.file.FileCore.retire.Goals as goal
 
 pub returns-clause-ok : goal.returns-clause-ok

@@ -1,8 +1,7 @@
-use Rattle.std.proofs.Common.{rules, ◌≡◌, ◌<◌, ◌≤◌, ◌-◌, ◌^◌, ℕ, Bool, true, false, Option, Some, None, ap, sym, ◌∙◌, subst, nat_eq, arith}
+use Rattle.std.proofs.Common.{◌≡◌, ◌<◌, ◌-◌, ◌^◌, None, nat_eq, arith}
 use Rattle.std.specs.Prelude.{min}
 use Rattle.std.specs.Map.{lookup}
 use Rattle.indexmap.specs.IndexMap.{spare}
-use Rattle.pfc_core.specs.declared.held.Held.{Held}
 use Rattle.pfc_core.proofs.Entries.{sum_inserted, of_ok}
 use Rattle.pfc_core.proofs.held.Tokens.add.Goals as goal
 

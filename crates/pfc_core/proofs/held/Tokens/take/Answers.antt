@@ -1,8 +1,7 @@
-use Rattle.std.proofs.Common.{rules, ◌≡◌, ◌<◌, ℕ, Bool, true, false, Option, Some, None, IsTrue, ap, sym, ◌∙◌, subst, nat_eq, arith}
-use Rattle.std.specs.Map.{lookup, values_of}
-use Rattle.std.specs.Prelude.{sum_by}
+use Rattle.std.proofs.Common.{rules, ◌≡◌, true, false, Some, None, ap, ◌∙◌, nat_eq}
+use Rattle.std.specs.Map.{lookup}
 use Rattle.pfc_core.specs.declared.held.Held.{Held}
-use Rattle.pfc_core.specs.Held.{is_held, Takes}
+use Rattle.pfc_core.specs.Held.{is_held}
 use Rattle.pfc_core.proofs.Entries.{sum_swapped}
 use Rattle.pfc_core.proofs.Numbered.{held_unlisted, held_absent, held_apart, held_listed, held_is}
 use Rattle.pfc_core.proofs.held.Tokens.take.Goals as goal

@@ -1,11 +1,5 @@
-use Rattle.std.proofs.Common.{rules, ◌≡◌, ◌+◌, ℕ, Bool, true, false, cond, List, Option, Some, None, ap, sym, ◌∙◌, subst, nat_eq, arith}
-use Rattle.std.specs.Prelude.{option_map}
-use Rattle.std.specs.Map.{lookup, values_of}
-use Rattle.std.proofs.lemmas.Map.Entries.{sum_by-set_value}
-use Rattle.pfc_core.specs.declared.slot.Slot.{Slot}
-use Rattle.pfc_core.specs.declared.shelf.Place.{Place}
-use Rattle.pfc_core.specs.Slots.{ShelfView, Changes}
-use Rattle.pfc_core.specs.Shelf.{slot_in, shelf_of, IsPlaced}
+use Rattle.std.proofs.Common.{rules, ◌≡◌, Some, None, sym, ◌∙◌, nat_eq, arith}
+use Rattle.std.specs.Map.{lookup}
 use Rattle.pfc_core.proofs.Entries.{sum_put}
 use Rattle.pfc_core.proofs.Shelves.{slot_look, kept_after, changed, none_is}
 use Rattle.pfc_core.proofs.shelf.Shelf.begin.Goals as goal

@@ -1,11 +1,6 @@
-use Rattle.std.proofs.Common.{refl, rules, ◌≡◌, ◌+◌, ℕ, Bool, true, false, cond, List, Option, Some, None, ap, sym, ◌∙◌, subst, nat_eq, arith}
-use Rattle.std.specs.Prelude.{option_map, sum_by, IsSome}
-use Rattle.std.specs.Map.{lookup, values_of}
+use Rattle.std.proofs.Common.{refl, rules, ◌≡◌, Some, None, sym, ◌∙◌, nat_eq}
+use Rattle.std.specs.Map.{lookup}
 use Rattle.std.proofs.lemmas.Map.Entries.{sum_by-set_value}
-use Rattle.pfc_core.specs.declared.slot.Slot.{Slot}
-use Rattle.pfc_core.specs.declared.shelf.Place.{Place}
-use Rattle.pfc_core.specs.Slots.{ShelfView, Changes}
-use Rattle.pfc_core.specs.Shelf.{slot_in, shelf_of, IsPlaced}
 use Rattle.pfc_core.proofs.Shelves.{slot_look, kept_after, changed, placed_one, slot_there, not_there, some_yes}
 use Rattle.pfc_core.proofs.shelf.Shelf.land.Goals as goal
 

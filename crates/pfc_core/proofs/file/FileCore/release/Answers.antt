@@ -1,40 +1,25 @@
-use Rattle.std.proofs.Common.{refl, ◌≡◌, ◌≢◌, ◌∙◌, sym, ap, subst, rules, arith, List, [], ◌∷◌, ◌++◌, length, true, false, Bool, ◌<◌, ◌≤◌, ℕ, Option, Some, None, eq-eqb, ne_eqb, ◌==◌, if◌then◌else◌, inl}
-use Rattle.std.specs.Prelude.{count_by, sum_by}
-use Rattle.pfc_log.specs.declared.entry.Entry.TheVariants.{Left, Dropped}
-use Rattle.pfc_log.specs.Lawful.{MayDrop}
-use Rattle.pfc_core.specs.declared.held.Held.{Held}
+use Rattle.std.proofs.Common.{refl, ◌≡◌, ◌≢◌, ◌∙◌, sym, ap, subst, rules, arith, [], ◌∷◌, ◌++◌, Bool, ℕ, Some, None, if◌then◌else◌}
+use Rattle.pfc_log.specs.declared.entry.Entry.TheVariants.{Left}
 use Rattle.pfc_core.specs.declared.slot.Slot.{Slot}
-use Rattle.pfc_core.specs.Marks.{Mark, TicketKind, JobKind, PinKind, Gains, Loses, listed}
-use Rattle.pfc_core.specs.Held.{Takes, Puts, is_held}
-use Rattle.pfc_core.specs.Leaves.{leaves, pins_on}
-use Rattle.pfc_core.specs.Slots.{slot_of, Changes, ShelfView, room_of, done_slot, lowered}
-use Rattle.pfc_core.specs.Out.{Home, mark_in, flight_of, out_of}
-use Rattle.pfc_core.specs.Tags.{home_in, IsAt, mark_of}
+use Rattle.pfc_core.specs.Marks.{PinKind}
+use Rattle.pfc_core.specs.Held.{Takes}
+use Rattle.pfc_core.specs.Slots.{slot_of, Changes, room_of, lowered}
+use Rattle.pfc_core.specs.Out.{out_of}
+use Rattle.pfc_core.specs.Tags.{home_in}
 use Rattle.pfc_core.specs.Homes.{home_of}
-use Rattle.pfc_core.specs.View.{CoreView}
 use Rattle.pfc_core.specs.Kept.{view_of}
 use Rattle.pfc_core.proofs.Kept.{gone_kept, less_kept, left_kept, apart_none, apart_other, in_more, takes_length, room_some}
 use Rattle.pfc_core.proofs.Leaving.{leaves_none, leaves_not, leaves_so, not_last, last_is}
 use Rattle.pfc_core.proofs.Outs.{loses_pin, less_loses, left_loses, loses_at, unlisted_pin, unlisted_elsewhere, at_home}
-use Rattle.pfc_core.proofs.file.FileCore.unpin.Goals as goal
+use Rattle.pfc_core.proofs.file.FileCore.release.Goals as goal
 
-pub returns-then-not-is_of-clause-strayed : goal.returns-then-not-is_of-clause-strayed
-returns-then-not-is_of-clause-strayed g c = let s = c.self.inside in
-    rw (← c.self.view_is, ← c.pin.view_is) (record {
-      back = refl;
-      why_is = c.stranger-why.ensures;
-      unchanged = refl;
-      unlisted = unlisted_elsewhere PinKind (home_in c.pin.inside.tag) (home_of s.instance s.shelf) c.pin.inside.tag.held s.stays.list s.readings.list s.pins.list s.shelf.slots c.if-not-is_of.ensures;
-    })
+pub returns-then-not-is_of-clause-no : goal.returns-then-not-is_of-clause-no
+returns-then-not-is_of-clause-no g c = let s = c.self.inside in
+    rw (← c.self.view_is, ← c.pin.view_is) (λ _. unlisted_elsewhere PinKind (home_in c.pin.inside.tag) (home_of s.instance s.shelf) c.pin.inside.tag.held s.stays.list s.readings.list s.pins.list s.shelf.slots c.if-not-is_of.ensures)
 
-pub returns-then-not-take-clause-strayed : goal.returns-then-not-take-clause-strayed
-returns-then-not-take-clause-strayed g c = let s = c.self.inside in let at = c.if-not-is_of.ensures in
-    rw (← c.self.view_is, ← c.pin.view_is) (record {
-      back = refl;
-      why_is = c.stranger-why.ensures;
-      unchanged = rw (c.if-not-take.ensures.same refl) refl;
-      unlisted = at_home PinKind (home_in c.pin.inside.tag) (home_of s.instance s.shelf) c.pin.inside.tag.held (view_of s).out at (unlisted_pin (home_of s.instance s.shelf) c.pin.inside.tag.held s.stays.list s.readings.list s.pins.list s.shelf.slots (c.if-not-take.ensures.no refl));
-    })
+pub returns-then-not-take-clause-no : goal.returns-then-not-take-clause-no
+returns-then-not-take-clause-no g c = let s = c.self.inside in let at = c.if-not-is_of.ensures in
+    rw (← c.self.view_is, ← c.pin.view_is) (λ _. at_home PinKind (home_in c.pin.inside.tag) (home_of s.instance s.shelf) c.pin.inside.tag.held (view_of s).out at (unlisted_pin (home_of s.instance s.shelf) c.pin.inside.tag.held s.stays.list s.readings.list s.pins.list s.shelf.slots (c.if-not-take.ensures.no refl)))
 
 pub invariant_of-self-in_default : goal.invariant_of-self-in_default
 invariant_of-self-in_default g c = let s = c.self.inside in let was = c.self.invariant in let p = c.pin.inside.tag.held in let take : Takes p s.pins.list c.take.new.self.list = c.if-not-take.ensures.yes refl in
@@ -45,11 +30,11 @@ invariant_of-self-in_default g c = let s = c.self.inside in let was = c.self.inv
       sized = was.sized;
     }
 
-pub returns-in_default-clause-ok : goal.returns-in_default-clause-ok
-returns-in_default-clause-ok g c = let s = c.self.inside in let was = c.self.invariant in let p = c.pin.inside.tag.held in let take : Takes p s.pins.list c.take.new.self.list = c.if-not-take.ensures.yes refl in
+pub returns-in_default-clause-yes : goal.returns-in_default-clause-yes
+returns-in_default-clause-yes g c = let s = c.self.inside in let was = c.self.invariant in let p = c.pin.inside.tag.held in let take : Takes p s.pins.list c.take.new.self.list = c.if-not-take.ensures.yes refl in
     let h = home_of s.instance s.shelf in let at = c.if-not-is_of.ensures in
     let none : slot_of p.block s.shelf.slots ≡ None = search rules in
-    rw (← c.self.view_is, ← c.pin.view_is) (record {
+    rw (← c.self.view_is, ← c.pin.view_is) (λ _. record {
       loses = loses_at PinKind (home_in c.pin.inside.tag) h p p (view_of s).out (out_of h s.stays.list s.readings.list c.take.new.self.list s.shelf.slots) at refl (loses_pin h s.stays.list s.readings.list p s.pins.list c.take.new.self.list s.shelf.slots take);
       enters = (ap (λ (q : Bool). record (view_of s) { entries = if q then s.log.entries ++ Left p.block ∷ [] else s.log.entries; out = out_of h s.stays.list s.readings.list c.take.new.self.list s.shelf.slots }) (sym (leaves_none s.log.entries p.block p.flight h s.stays.list s.readings.list s.pins.list s.shelf.slots (slot_of p.block s.shelf.slots) (was.held.tied.fine p.block) none)));
     })
@@ -64,12 +49,12 @@ invariant_of-self-then-slot-held g c = let s = c.self.inside in let was = c.self
       sized = was.sized;
     }
 
-pub returns-then-slot-held-clause-ok : goal.returns-then-slot-held-clause-ok
-returns-then-slot-held-clause-ok g c = let s = c.self.inside in let was = c.self.invariant in let p = c.pin.inside.tag.held in let take : Takes p s.pins.list c.take.new.self.list = c.if-not-take.ensures.yes refl in
+pub returns-then-slot-held-clause-yes : goal.returns-then-slot-held-clause-yes
+returns-then-slot-held-clause-yes g c = let s = c.self.inside in let was = c.self.invariant in let p = c.pin.inside.tag.held in let take : Takes p s.pins.list c.take.new.self.list = c.if-not-take.ensures.yes refl in
     let h = home_of s.instance s.shelf in let at = c.if-not-is_of.ensures in
     let x = c.in-Some.slot in let there : slot_of p.block s.shelf.slots ≡ Some x = search rules in let block : x.block ≡ p.block = search rules in
     let apart : x.ticket ≢ p.flight = search rules in
-    rw (← c.self.view_is, ← c.pin.view_is) (record {
+    rw (← c.self.view_is, ← c.pin.view_is) (λ _. record {
       loses = loses_at PinKind (home_in c.pin.inside.tag) h p p (view_of s).out (out_of h s.stays.list s.readings.list c.take.new.self.list s.shelf.slots) at refl (loses_pin h s.stays.list s.readings.list p s.pins.list c.take.new.self.list s.shelf.slots take);
       enters = (ap (λ (q : Bool). record (view_of s) { entries = if q then s.log.entries ++ Left p.block ∷ [] else s.log.entries; out = out_of h s.stays.list s.readings.list c.take.new.self.list s.shelf.slots }) (sym (leaves_not s.log.entries p.block p.flight h s.stays.list s.readings.list s.pins.list s.shelf.slots (slot_of p.block s.shelf.slots) x (was.held.tied.fine p.block) there (λ e l d n. apart e))));
     })
@@ -86,13 +71,13 @@ invariant_of-self-then-is_last g c = let s = c.self.inside in let was = c.self.i
       sized = rw (c.push.ensures, moved.size, moved.block_size) was.sized;
     }
 
-pub returns-then-is_last-clause-ok : goal.returns-then-is_last-clause-ok
-returns-then-is_last-clause-ok g c = let s = c.self.inside in let was = c.self.invariant in let p = c.pin.inside.tag.held in let take : Takes p s.pins.list c.take.new.self.list = c.if-not-take.ensures.yes refl in
+pub returns-then-is_last-clause-yes : goal.returns-then-is_last-clause-yes
+returns-then-is_last-clause-yes g c = let s = c.self.inside in let was = c.self.invariant in let p = c.pin.inside.tag.held in let take : Takes p s.pins.list c.take.new.self.list = c.if-not-take.ensures.yes refl in
     let h = home_of s.instance s.shelf in let at = c.if-not-is_of.ensures in
     let x = c.in-Some.slot in let there : slot_of p.block s.shelf.slots ≡ Some x = search rules in let block : x.block ≡ p.block = search rules in
     let moved : Changes p.block (Some x) None s.shelf c.remove.new.self = subst (λ (k : ℕ). Changes k (Some x) None s.shelf c.remove.new.self) block c.remove.ensures in
     let last = last_is x (sym c.is_last.ensures ∙ search rules) in let ticket : x.ticket ≡ p.flight = search rules in
-    rw (← c.self.view_is, ← c.pin.view_is, moved.path, moved.size, moved.block_size) (record {
+    rw (← c.self.view_is, ← c.pin.view_is, moved.path, moved.size, moved.block_size) (λ _. record {
       loses = loses_at PinKind (home_in c.pin.inside.tag) h p p (view_of s).out (out_of h s.stays.list s.readings.list c.take.new.self.list c.remove.new.self.slots) at refl (left_loses h s.stays.list s.readings.list p s.pins.list c.take.new.self.list p.block x s.shelf c.remove.new.self take moved last.0 last.1);
       enters = rw c.push.ensures (ap (λ (q : Bool). record (view_of s) { entries = if q then s.log.entries ++ Left p.block ∷ [] else s.log.entries; out = out_of h s.stays.list s.readings.list c.take.new.self.list c.remove.new.self.slots }) (sym (leaves_so s.log.entries p.block p.flight h s.stays.list s.readings.list s.pins.list s.shelf.slots (slot_of p.block s.shelf.slots) x (was.held.tied.fine p.block) there ticket last.0 last.1 last.2)));
     })
@@ -109,13 +94,13 @@ invariant_of-self-2 g c = let s = c.self.inside in let was = c.self.invariant in
       sized = rw (moved.size, moved.block_size) was.sized;
     }
 
-pub returns-clause-ok : goal.returns-clause-ok
-returns-clause-ok g c = let s = c.self.inside in let was = c.self.invariant in let p = c.pin.inside.tag.held in let take : Takes p s.pins.list c.take.new.self.list = c.if-not-take.ensures.yes refl in
+pub returns-clause-yes : goal.returns-clause-yes
+returns-clause-yes g c = let s = c.self.inside in let was = c.self.invariant in let p = c.pin.inside.tag.held in let take : Takes p s.pins.list c.take.new.self.list = c.if-not-take.ensures.yes refl in
     let h = home_of s.instance s.shelf in let at = c.if-not-is_of.ensures in
     let x = c.in-Some.slot in let there : slot_of p.block s.shelf.slots ≡ Some x = search rules in let block : x.block ≡ p.block = search rules in
     let moved : Changes p.block (Some x) (Some (lowered x)) s.shelf c.change.new.self = subst (λ (k : ℕ). Changes k (Some x) (Some (lowered x)) s.shelf c.change.new.self) block (subst (λ (y : Slot). Changes y.block (Some x) (Some y) s.shelf c.change.new.self) c.unpinned.ensures c.change.ensures) in
     let stays = not_last x (sym c.is_last.ensures ∙ search rules) in let ticket : x.ticket ≡ p.flight = search rules in
-    rw (← c.self.view_is, ← c.pin.view_is, moved.path, moved.size, moved.block_size) (record {
+    rw (← c.self.view_is, ← c.pin.view_is, moved.path, moved.size, moved.block_size) (λ _. record {
       loses = loses_at PinKind (home_in c.pin.inside.tag) h p p (view_of s).out (out_of h s.stays.list s.readings.list c.take.new.self.list c.change.new.self.slots) at refl (less_loses h s.stays.list s.readings.list p s.pins.list c.take.new.self.list p.block x s.shelf c.change.new.self take moved);
       enters = (ap (λ (q : Bool). record (view_of s) { entries = if q then s.log.entries ++ Left p.block ∷ [] else s.log.entries; out = out_of h s.stays.list s.readings.list c.take.new.self.list c.change.new.self.slots }) (sym (leaves_not s.log.entries p.block p.flight h s.stays.list s.readings.list s.pins.list s.shelf.slots (slot_of p.block s.shelf.slots) x (was.held.tied.fine p.block) there (λ e. stays))));
     })

@@ -1,0 +1,89 @@
+ghost use Rattle.std.specs.Prelude.{◌≡◌, ◌<◌, ◌≤◌};
+ghost use Rattle.pfc_base.specs.Block.{IsPartOf};
+ghost use Rattle.pfc_core.specs.Leave.{leave_of};
+
+use crate::tag::Tag;
+use crate::token::Pin;
+use pfc_base::Part;
+use pfc_world::{Known, World};
+use std::marker::Model;
+
+/// The right to read one part of a block straight from the origin, once. The log has its entry already. It must be spent.
+pub struct Leave<W: World> {
+    pub(crate) known: Known<W>,
+    pub(crate) block_size: u64,
+    client: u32,
+    pub(crate) part: Part,
+}
+
+impl<W: World> Model for Leave<W> {
+    ghost use Rattle.pfc_core.specs.Leave.{LeaveView, IsInFile};
+
+    ghost Value = { LeaveView };
+
+    ghost view = { λ l. record { client = l.client; path = l.known.path; size = l.known.size; block_size = l.block_size; part = l.part } };
+
+    ghost invariant = { λ l. IsInFile l.known.size l.block_size l.part };
+}
+
+impl<W: World> Leave<W> {
+    pub fn client(&self) -> u32
+        ensures { result ≡ self.now.client }
+    {
+        self.client
+    }
+
+    pub fn known(&self) -> &Known<W>
+        ensures path { result.now.path ≡ self.now.path }
+        ensures size { result.now.size ≡ self.now.size }
+    {
+        &self.known
+    }
+
+    /// The block size in bytes.
+    pub fn block_size(&self) -> u64
+        ensures value { result ≡ self.now.block_size }
+        ensures some { 0 < result }
+        ensures most { result ≤ 16777216 }
+    {
+        self.block_size
+    }
+
+    pub fn part(&self) -> Part
+        ensures value { result ≡ self.now.part }
+        ensures within { IsPartOf self.now.size self.now.block_size result }
+    {
+        self.part
+    }
+
+    /// Ends a leave by which nothing is read.
+    pub fn discard(self) {
+        let Leave {
+            known,
+            block_size: _,
+            client: _,
+            part: _,
+        } = self;
+        drop(known);
+    }
+}
+
+/// A leave in the place of a pin.
+pub(crate) fn leave_for<W: World>(pin: Pin<W>, part: Part) -> Leave<W>
+    requires { IsPartOf pin.size pin.block_size part }
+    ensures { result ≡ leave_of pin part }
+{
+    let Pin { tag } = pin;
+    let Tag {
+        known,
+        block_size,
+        held,
+        ..
+    } = tag;
+    Leave {
+        known,
+        block_size,
+        client: held.client,
+        part,
+    }
+}
