@@ -120,7 +120,7 @@ asked-more {W = W} old n all i d before after mid new low inside was is =
       unchanged = rest-again old mid new home one.rest;
       tickets_are = subst (All (IsOf old TicketKind n)) (sym is.tickets)
           (All-append (IsOf old TicketKind n) before.tickets.items (tickets_of x) was.tickets_are
-            (All-weaker (IsOf mid TicketKind n) (IsOf old TicketKind n) (λ m h. of-again old mid TicketKind n m home h) (tickets_of x) one.tickets_are));
+          (All-weaker (IsOf mid TicketKind n) (IsOf old TicketKind n) (λ m h. of-again old mid TicketKind n m home h) (tickets_of x) one.tickets_are));
       pendings_are = λ off row. subst (All (IsAsked old n off (sum_by part_len all))) (sym is.pendings) (All-push (IsAsked old n off (sum_by part_len all)) before.pendings.items pend (was.pendings_are off row) (asked off row));
       gains = λ w.
           let a = one.gains w in

@@ -2,3 +2,4 @@ mod Decided
 mod Asked
 mod Weights
 mod Hands
+mod Planned

@@ -1,6 +1,7 @@
 -- What the fields of a read are.
 use Rattle.std.specs.Prelude.{◌≡◌, ◌<◌, ◌≤◌, ◌+◌, ◌-◌, ◌*◌, ◌⊎◌, min, ℕ, Bool, IsTrue, List, [], ◌++◌, length, map, sum_by, vec_len, vec_capacity, All, Option, Some, None, IfSome, slice_index}
 use Rattle.pfc_log.specs.declared.entry.Fell.{Fell}
+use Rattle.pfc_log.specs.declared.entry.Fell.TheVariants.{Fault}
 use Rattle.pfc_log.specs.declared.entry.Served.{Served}
 use Rattle.pfc_base.specs.declared.block.Piece.{Piece}
 use Rattle.pfc_world.specs.Files.{Files, file_at, HasSize}
@@ -115,9 +116,10 @@ Stands tickets pendings owed failed (hand.Pin s) = (tickets ≡ []) × (owed ≡
 Stands tickets pendings owed failed hand.End = (tickets ≡ []) × (owed ≡ None) × ((pendings ≡ []) ⊎ (0 < failed))
 Stands tickets pendings owed failed _ = Unit {0}
 
--- how far the read is, and that a failed flight keeps it from data
-pub record IsStaged {W : Type 0} (tickets : List Mark) (pendings : List (Pending W)) (owed : Option (Owed W)) (hand : Hand) (failed : ℕ) (met : Option Fell) : Type 0 where
+-- how far the read is, that a failed flight keeps it from data, and that the origin fails only where there are bytes to read
+pub record IsStaged {W : Type 0} (total : ℕ) (tickets : List Mark) (pendings : List (Pending W)) (owed : Option (Owed W)) (hand : Hand) (failed : ℕ) (met : Option Fell) : Type 0 where
   pub hurt : 0 < failed → met ≡ None → ⊥
+  pub fetch : met ≡ Some Fault → 0 < total
   pub stands : Stands tickets pendings owed failed hand
 
 -- a pin that is given out finds room in either list
@@ -126,8 +128,8 @@ pub record IsRoomy (pendings pins look pending_room pin_room : ℕ) : Type 0 whe
   pub on : pins + pendings + look ≤ pin_room
 
 pub record IsKept {W : Type 0} (told : Bool) (files : Files) (s : Inside W) : Type 0 where
-  pub own : AreOwn s.reading s.piece.off (vec_len s.bytes) s.tickets.items s.pendings.items s.pins.items s.owed s.hand
-  pub counted : AreCounted s.reading.block_size (vec_len s.bytes) s.tickets.items s.pendings.items s.owed s.hand s.counts s.served s.met
+  pub own : AreOwn s.reading s.piece.off (length s.bytes.items) s.tickets.items s.pendings.items s.pins.items s.owed s.hand
+  pub counted : AreCounted s.reading.block_size (length s.bytes.items) s.tickets.items s.pendings.items s.owed s.hand s.counts s.served s.met
   pub sound : IsSound told files s.reading s.piece s.bytes.items s.pendings.items s.owed s.hand s.met
-  pub staged : IsStaged s.tickets.items s.pendings.items s.owed s.hand s.counts.failed s.met
+  pub staged : IsStaged (length s.bytes.items) s.tickets.items s.pendings.items s.owed s.hand s.counts.failed s.met
   pub roomy : IsRoomy (length s.pendings.items) (length s.pins.items) (is_look s.hand) (vec_capacity s.pendings) (vec_capacity s.pins)

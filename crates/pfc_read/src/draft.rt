@@ -37,7 +37,13 @@ impl<W: World> Draft<W> {
     pub fn discard(self)
         requires { vec_len self.tickets ≡ 0 }
     {
-        let Draft { tickets, .. } = self;
+        let Draft {
+            tickets,
+            pendings,
+            hits: _,
+            waits: _,
+        } = self;
+        drop(pendings);
         tickets.destroy_empty();
     }
 
@@ -52,13 +58,7 @@ impl<W: World> Draft<W> {
     }
 
     /// Decides for one part, which starts at this place of the reply.
-    fn ask(
-        &mut self,
-        core: &mut FileCore<W>,
-        n: u32,
-        part: Part,
-        at: usize,
-    ) -> Result<(), Memory>
+    fn ask(&mut self, core: &mut FileCore<W>, n: u32, part: Part, at: usize) -> Result<(), Memory>
         requires part { IsPartOf core.old.size core.old.block_size part }
         requires tickets { vec_len self.old.tickets < vec_capacity self.old.tickets }
         requires pendings { vec_len self.old.pendings < vec_capacity self.old.pendings }
@@ -88,12 +88,7 @@ impl<W: World> Draft<W> {
     }
 
     /// Decides for the parts in order, until memory is refused.
-    pub fn ask_all(
-        &mut self,
-        core: &mut FileCore<W>,
-        n: u32,
-        parts: &[(u32, Part)],
-    ) -> Option<Fell>
+    pub fn ask_all(&mut self, core: &mut FileCore<W>, n: u32, parts: &[(u32, Part)]) -> Option<Fell>
         requires empty { IsEmptyFor (length parts.now) self.old }
         requires few { sum_by part_len (map (λ x. x.1) parts.now) ≤ 16777216 }
         requires inside { All (IsPartOf core.old.size core.old.block_size) (map (λ x. x.1) parts.now) }

@@ -6,13 +6,13 @@ ghost use Rattle.pfc_read.specs.Plans.{Plans};
 ghost use Rattle.pfc_read.specs.Steps.{Gives, Supplies};
 
 use crate::action::{Action, Done};
-use crate::segment::{Counts, Hand, Owed, Pending};
 use crate::draft::Draft;
+use crate::segment::{Counts, Hand, Owed, Pending};
 use pfc_base::{Memory, Part, Piece};
 use pfc_core::{FileCore, Pin, Reading, Ticket};
 use pfc_log::{Fell, Served};
-use pfc_world::World;
 use pfc_span::parts;
+use pfc_world::World;
 use std::alloc::{AllocError, Global};
 use std::marker::Model;
 
@@ -134,6 +134,13 @@ impl<W: World> ReadOp<W> {
             },
             met,
         })
+    }
+
+    /// The number of the core that the read is of.
+    pub fn instance(&self) -> u64
+        ensures { result ≡ self.now.reading.instance }
+    {
+        self.reading.instance()
     }
 
     /// The next action.

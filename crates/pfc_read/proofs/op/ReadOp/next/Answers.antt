@@ -4,7 +4,7 @@ use Rattle.pfc_core.specs.Marks.{Mark}
 use Rattle.pfc_read.specs.declared.segment.Hand.TheVariants as hand
 use Rattle.pfc_read.specs.OpView.{OpView, Nothing}
 use Rattle.pfc_read.specs.Kept.{given_of, owed_count, IsKept}
-use Rattle.pfc_read.proofs.Hands.{loses-last, kept-run, kept-fill, kept-look, kept-end, pins-look}
+use Rattle.pfc_read.proofs.Hands.{loses-last, kept-run, kept-fill, kept-look, pins-look}
 use Rattle.pfc_read.proofs.op.ReadOp.next.Goals as goal
 
 pub invariant_of-self : goal.invariant_of-self
