@@ -2,6 +2,7 @@
 use Rattle.std.specs.Prelude.{◌≡◌, ◌+◌, ◌*◌, ◌≤◌, ℕ, ◌&&◌, nat_le, nat_lt, if◌then◌else◌, List, map, Option, Some, None, sum_by}
 use Rattle.pfc_base.specs.declared.block.Part.{Part}
 use Rattle.pfc_base.specs.Block.{IsPartOf}
+use Rattle.pfc_log.specs.declared.entry.Served.{Served}
 use Rattle.pfc_core.specs.Marks.{Mark}
 use Rattle.pfc_read.specs.declared.segment.Source.{Source}
 use Rattle.pfc_read.specs.declared.segment.Source.TheVariants as source
@@ -48,3 +49,13 @@ in_hand f _ = 0
 
 abbrev pub pin_in : {W : Type 0} → Pending W → Mark
 pin_in p = p.pin
+
+-- the bytes that came, with a part more
+abbrev pub with_part : Served → Source → ℕ → Served
+with_part served source.Memory n = record served { hit = served.hit + n }
+with_part served source.Flight n = record served { missed = served.missed + n }
+with_part served source.Origin n = record served { bypassed = served.bypassed + n }
+
+-- the same part, from the origin itself
+abbrev pub owed_segment : Segment → Segment
+owed_segment s = record s { source = source.Origin }

@@ -5,6 +5,9 @@ ghost use Rattle.pfc_read.specs.OpView.{Nothing, ToRun, first_met};
 ghost use Rattle.pfc_read.specs.Plans.{Plans};
 ghost use Rattle.pfc_read.specs.Steps.{Gives, Supplies};
 
+mod end;
+mod fill;
+
 use crate::action::{Action, Done};
 use crate::draft::Draft;
 use crate::segment::{Counts, Hand, Owed, Pending};

@@ -34,6 +34,13 @@ pub(crate) struct Owed<W: World> {
     pub segment: Segment,
 }
 
+impl<W: World> Owed<W> {
+    pub fn discard(self) {
+        let Owed { leave, segment: _ } = self;
+        leave.discard();
+    }
+}
+
 /// The action that was given out and isn't supplied yet, with the part that it is about.
 #[derive(Clone, Copy, Debug, PartialEq, Eq)]
 pub(crate) enum Hand {
