@@ -1,0 +1,9 @@
+mod Decided
+mod Asked
+mod Weights
+mod Hands
+mod Planned
+mod Written
+mod Filled
+mod Moves
+mod Ended
