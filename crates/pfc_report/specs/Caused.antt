@@ -1,10 +1,10 @@
 -- Which reports are caused: what may be reported of a schedule, where the counts of the clients' links were these and are those.
-use Rattle.std.specs.Prelude.{◌≡◌, ◌≢◌, ℕ, ◌+◌, ◌*◌, ◌<◌, ◌≤◌, Bool, true, false, List, [], length, map, zip, All, AllPairs, sum_by, count_by, Result, Ok, Err}
+use Rattle.std.specs.Prelude.{◌≡◌, ◌≢◌, ℕ, ◌+◌, ◌*◌, ◌<◌, ◌≤◌, Bool, true, false, List, [], length, map, zip, All, AllPairs, sum_by, count_by, Result, Ok}
 use Rattle.pfc_base.specs.BlockSet.{is_member}
 use Rattle.pfc_world.specs.Files.{Files}
 use Rattle.pfc_world.specs.Counts.{RoseBy, last_count}
 use Rattle.pfc_client.specs.declared.request.Request.{Request}
-use Rattle.pfc_client.specs.declared.request.Request.TheVariants.{Open, Read, Close}
+use Rattle.pfc_client.specs.declared.request.Request.TheVariants.{Open, Read}
 use Rattle.pfc_client.specs.declared.request.RequestRefusal.{RequestRefusal}
 use Rattle.pfc_client.specs.declared.reply.Reply.{Reply}
 use Rattle.pfc_client.specs.declared.reply.Reply.TheVariants as r
