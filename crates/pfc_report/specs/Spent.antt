@@ -1,8 +1,15 @@
 -- What links have spent, by their numbers.
-use Rattle.std.specs.Prelude.{ℕ, ◌==◌, List, [], ◌∷◌, if◌then◌else◌}
+use Rattle.std.specs.Prelude.{ℕ, ◌==◌, List, [], ◌∷◌, map, if◌then◌else◌}
 
--- each row is a link's number, its calls and its faults; no link of a number has spent nothing
-abbrev pub spent_by : List (ℕ × ℕ × ℕ) → ℕ → ℕ × ℕ
+-- a row for each link: its number, its calls and its faults
+abbrev pub Rows : Type 0
+Rows = List (ℕ × ℕ × ℕ)
+
+abbrev pub rows_of : {L : Type 0} → (L → ℕ) → (L → ℕ) → (L → ℕ) → List L → Rows
+rows_of number calls faults links = map (λ link. (number link, calls link, faults link)) links
+
+-- the calls and the faults in the row of this number; without a row nothing was spent
+abbrev pub spent_by : Rows → ℕ → ℕ × ℕ
 spent_by [] n = (0, 0)
 spent_by (row ∷ rows) n = if n == row.0 then (row.1, row.2) else spent_by rows n
 

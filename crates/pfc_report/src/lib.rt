@@ -5,4 +5,4 @@ mod report;
 mod schedule;
 
 pub use report::{Replies, Report, Section, Told};
-pub use schedule::{Plan, SCHEDULE_LIMIT, ScheduleRefusal, Step, read_schedule};
+pub use schedule::{CLIENTS, Plan, SCHEDULE_LIMIT, ScheduleRefusal, Step, read_schedule};

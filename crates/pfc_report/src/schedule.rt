@@ -1,6 +1,6 @@
-ghost use Rattle.std.specs.Prelude.{◌≡◌, ℕ, ◌++◌, [], ◌<◌, ◌≤◌, length, option_map, map, Some, Ok, Err, IfOk, IfErr, OnOk};
+ghost use Rattle.std.specs.Prelude.{◌≡◌, ℕ, ◌++◌, [], ◌<◌, ◌≤◌, length, option_map, map, Some, Ok, Err, IfOk, IfErr, OnOk, false, ◌||◌, is_some, slice_index_or};
 ghost use Rattle.pfc_base.specs.Pieces.{pieces_of};
-ghost use Rattle.pfc_report.specs.Schedule.{Go, decimal_to, client_of, asking, going, line_by, said_by, said_first, all_said, schedule_of};
+ghost use Rattle.pfc_report.specs.Schedule.{Go, decimal_to, client_of, asking, going, line_by, said_by, said_first, all_said, schedule_of, is_asked, request_for};
 ghost use Rattle.pfc_report.specs.Plan.{line_of, words_behind, Refuses};
 ghost use Rattle.pfc_report.specs.declared.schedule.ScheduleRefusal.TheVariants as refusal;
 
@@ -10,6 +10,9 @@ use std::marker::Model;
 
 /// The most bytes of a schedule.
 pub const SCHEDULE_LIMIT: usize = 67108864;
+
+/// How many clients there may be. Their numbers begin with 1.
+pub const CLIENTS: usize = 64;
 
 /// One thing that a schedule says.
 #[derive(Clone, Copy)]
@@ -60,6 +63,39 @@ impl<'a> Plan<'a> {
         ensures { map line_of result.now ≡ self.now }
     {
         &self.steps
+    }
+
+    /// Which numbers up to 64 are clients that are asked anything, in one pass.
+    pub fn asked(&self) -> [bool; CLIENTS + 1]
+        ensures { (n : ℕ) → n < 65 → slice_index_or result n false ≡ is_asked self.now n }
+    {
+        asked_in(&self.steps)
+    }
+}
+
+/// Which numbers up to 64 are clients that the steps ask anything.
+fn asked_in(steps: &[Step<'_>]) -> [bool; CLIENTS + 1]
+    ensures { (n : ℕ) → n < 65 → slice_index_or result n false ≡ is_asked (map line_of steps.now) n }
+{
+    let mut marks = [false; CLIENTS + 1];
+    for step in steps {
+        mark_asked(&mut marks, step);
+    }
+    marks
+}
+
+/// Marks the client that a step asks something.
+fn mark_asked(marks: &mut [bool], step: &Step<'_>)
+    requires { length marks.old ≡ 65 }
+    ensures { (n : ℕ) → n < 65 → slice_index_or marks.new n false ≡ (slice_index_or marks.old n false || is_some (request_for n (line_of step.now))) }
+{
+    match step {
+        Step::Go { .. } => (),
+        Step::Ask { client, .. } => {
+            if *client < 65 {
+                marks[*client as usize] = true;
+            }
+        }
     }
 }
 
