@@ -1,5 +1,5 @@
 -- What was read of a configuration says what the whole of it comes to.
-use Rattle.std.proofs.Common.{◌≡◌, ℕ, ◌+◌, ◌<◌, ◌≤◌, List, length, take, sym, ap, ◌∙◌, arith, take_all, length-take, Bool, true, false, subst, refl}
+use Rattle.std.proofs.Common.{◌≡◌, ℕ, ◌<◌, ◌≤◌, List, length, take, sym, ap, ◌∙◌, arith, take_all, length-take, Bool, true, false, subst, refl}
 use Rattle.std.specs.Prelude.{Option, Some, None, Result, IsSomeAnd, nat_le}
 use Rattle.std.proofs.lemmas.Bool.Decides.{nat_tests}
 use Rattle.pfc_config.specs.declared.config.Config.{Config}

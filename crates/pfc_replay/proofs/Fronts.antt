@@ -62,3 +62,7 @@ pub flat_map-at : {X : Type 0} (f : X → List ℕ) (xs : List X) (i : ℕ) (x :
 flat_map-at f xs i x low is =
     let rest : drop i xs ≡ x ∷ drop (i + 1) xs = drop_more xs i x low ∙ ap (λ y. y ∷ drop (i + 1) xs) is in
     ap (flat_map f) (sym (take-append-drop i xs)) ∙ flat_map-append f (take i xs) (drop i xs) ∙ ap (λ ys. flat_map f (take i xs) ++ flat_map f ys) rest
+
+-- all of it
+pub flat_map-all : {X : Type 0} (f : X → List ℕ) (xs : List X) (i : ℕ) → length xs ≤ i → flat_map f xs ≡ flat_map f (take i xs) ++ ([] ++ [])
+flat_map-all f xs i high = ap (flat_map f) (sym (take_all i xs high)) ∙ sym (append-nil (flat_map f (take i xs)))

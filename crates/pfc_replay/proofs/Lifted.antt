@@ -1,12 +1,10 @@
 -- A report that is caused by what fresh links spent is caused by what their host says was spent.
-use Rattle.std.proofs.Common.{◌≡◌, ℕ, ◌+◌, ◌<◌, ◌≤◌, List, [], length, refl, sym, ap, ◌∙◌, arith, Bool, subst}
-use Rattle.std.specs.Prelude.{All, count_by}
+use Rattle.std.proofs.Common.{◌≡◌, ℕ, ◌+◌, ◌<◌, ◌≤◌, List, refl, sym, arith, Bool, subst}
 use Rattle.std.proofs.lemmas.List.Elements.{All-weaker}
 use Rattle.pfc_world.specs.Files.{Files}
 use Rattle.pfc_world.specs.Counts.{RoseBy, add_count, last_count}
 use Rattle.pfc_client.specs.declared.reply.Reply.{Reply}
 use Rattle.pfc_client.specs.Permitted.{ArePermitted}
-use Rattle.pfc_report.specs.declared.report.Told.{Told}
 use Rattle.pfc_report.specs.declared.report.Section.{Section}
 use Rattle.pfc_report.specs.Schedule.{Line, asked}
 use Rattle.pfc_report.specs.Report.{ReportView}
@@ -52,3 +50,8 @@ pub caused-same : (told : Bool) (files : Files) (k : ℕ) (lines : List Line) (b
     ((n : ℕ) → now n ≡ after n) → IsCausedReport told files k lines before after report → IsCausedReport told files k lines before now report
 caused-same told files k lines before after now report same caused =
     subst (λ (spent : Spent). IsCausedReport told files k lines before spent report) (sym (λ i n. same n i)) caused
+
+pub caused-since : (told : Bool) (files : Files) (k : ℕ) (lines : List Line) (before mid after : Spent) (report : ReportView) →
+    ((n : ℕ) → mid n ≡ before n) → IsCausedReport told files k lines mid after report → IsCausedReport told files k lines before after report
+caused-since told files k lines before mid after report same caused =
+    subst (λ (spent : Spent). IsCausedReport told files k lines spent after report) (λ i n. same n i) caused

@@ -1,8 +1,8 @@
 -- The causes of outcomes, and what follows from them.
-use Rattle.std.proofs.Common.{◌≡◌, ℕ, ◌<◌, ◌≤◌, List, Bool, true, false, subst, sym, ap, ◌∙◌, refl, arith, inl, inr}
-use Rattle.std.specs.Prelude.{◌⊎◌, Option, Some, None, Result, Ok, Err, IsSomeAnd, IsTrue, IfOk}
-use Rattle.pfc_world.specs.Files.{Files, file_at}
-use Rattle.pfc_world.specs.Counts.{Rose, Stayed, stayed-rose}
+use Rattle.std.proofs.Common.{◌≡◌, ℕ, ◌≤◌, List, Bool, subst, sym, refl, arith}
+use Rattle.std.specs.Prelude.{Option, Some, None, Result, Ok, Err, IsSomeAnd, IfOk}
+use Rattle.pfc_world.specs.Files.{Files}
+use Rattle.pfc_world.specs.Counts.{Rose, stayed-rose}
 use Rattle.pfc_world.specs.Texts.{Texts, Appends}
 use Rattle.pfc_base.specs.declared.memory.Memory.{Memory}
 use Rattle.pfc_client.proofs.Walks.{plain_permitted}
@@ -10,11 +10,11 @@ use Rattle.pfc_config.specs.declared.config.Config.{Config}
 use Rattle.pfc_config.specs.declared.refusal.ConfigRefusal.{ConfigRefusal}
 use Rattle.pfc_config.specs.declared.refusal.ConfigRefusal.TheVariants.{Bad}
 use Rattle.pfc_config.specs.Config.{configured}
-use Rattle.pfc_report.specs.Schedule.{Line, schedule_of, asked}
+use Rattle.pfc_report.specs.Schedule.{Line, schedule_of}
 use Rattle.pfc_report.specs.Report.{ReportView}
 use Rattle.pfc_report.specs.Caused.{Spent, IsCausedReport}
 use Rattle.pfc_replay.specs.Words.{Call, call_of}
-use Rattle.pfc_replay.specs.Outcome.{Asked, Causes, IsTaken, IsPlanned, SaysOf, IsUnhindered, WritesPlain, ArePlainWhereUnhurt, status_of, text_of, outcome_of}
+use Rattle.pfc_replay.specs.Outcome.{Asked, Causes, IsTaken, SaysOf, IsUnhindered, WritesPlain, ArePlainWhereUnhurt, status_of, text_of, outcome_of}
 use Rattle.pfc_replay.specs.Run.{Runs}
 use Rattle.pfc_replay.specs.declared.outcome.Part.TheVariants as part
 use Rattle.pfc_replay.specs.declared.outcome.Outcome.{Outcome}
@@ -37,12 +37,14 @@ caused told files given call config host mid host' before after (out.Fault part.
 caused told files given call config host mid host' before after (out.Fault (part.Link number)) taken low run =
     (rose-before host mid host' low run.0, (call, config, run.1.0, record { taken = taken; says = run.1.1 }, run.1.2))
 
-pub caused-result : (told : Bool) (files : Files) (given : Asked) (call : Call) (config : Config) (host mid host' : ℕ) (before after : Spent) (result : Result Outcome Memory) →
-    IsTaken given call config → host ≤ mid → IfOk result (Runs told files config.blocksize given.told given.texts call.schedule mid host' before after) →
-    IfOk result (Causes told files given host host' before after)
-caused-result told files given call config host mid host' before after (Ok outcome) taken low run =
-    caused told files given call config host mid host' before after outcome taken low run
-caused-result told files given call config host mid host' before after (Err e) taken low run = tt
+pub caused-result : (told : Bool) (files : Files) (given : Asked) (call : Call) (config : Config) (host mid host' : ℕ) (texts : Texts) (before since after : Spent) (result : Result Outcome Memory) →
+    IsTaken given call config → host ≤ mid → texts ≡ given.texts → ((n : ℕ) → since n ≡ before n) →
+    IfOk result (Runs told files config.blocksize given.told texts call.schedule mid host' since after) → IfOk result (Causes told files given host host' before after)
+caused-result told files given call config host mid host' texts before since after (Ok outcome) taken low same still run =
+    caused told files given call config host mid host' before after outcome taken low
+    (subst (λ (spent : Spent). Runs told files config.blocksize given.told given.texts call.schedule mid host' spent after outcome) (λ i n. still n i)
+    (subst (λ (t : Texts). Runs told files config.blocksize given.told t call.schedule mid host' since after outcome) same run))
+caused-result told files given call config host mid host' texts before since after (Err e) taken low same still run = tt
 
 -- a configuration that is refused
 pub config-refused : (told : Bool) (files : Files) (given : Asked) (call : Call) (host host' : ℕ) (before after : Spent) (refusal : ConfigRefusal) (outcome : Outcome) →

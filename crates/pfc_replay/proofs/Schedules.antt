@@ -1,6 +1,6 @@
 -- What was read of a schedule says what the whole of it says.
 use Rattle.std.proofs.Common.{◌≡◌, ℕ, ◌+◌, ◌<◌, ◌≤◌, List, length, take, sym, ap, ◌∙◌, arith, take_all, length-take, subst}
-use Rattle.std.specs.Prelude.{Option, Some, None, Result, Ok, Err, IsSomeAnd, nat_le}
+use Rattle.std.specs.Prelude.{Option, Some, None, Result, Err, IsSomeAnd, nat_le}
 use Rattle.std.proofs.lemmas.Bool.Decides.{nat_tests}
 use Rattle.pfc_report.specs.Schedule.{Line, schedule_of, schedule_limit}
 use Rattle.pfc_report.proofs.Lines.{schedule_of-long}

@@ -1,5 +1,5 @@
 -- What a run comes to: its cause, its status and its text.
-use Rattle.std.specs.Prelude.{◌≡◌, ℕ, ◌⊎◌, ◌++◌, Bool, true, List, All, codes, count_by, IsTrue, Option, Some, None, is_ok, Result, Ok, Err, IsSomeAnd}
+use Rattle.std.specs.Prelude.{◌≡◌, ℕ, ◌++◌, Bool, List, All, codes, count_by, IsTrue, Some, None, Ok, Err, IsSomeAnd}
 use Rattle.std.specs.Fmt.{decimal}
 use Rattle.pfc_world.specs.Files.{Files, file_at}
 use Rattle.pfc_world.specs.Counts.{Rose, Stayed}

@@ -1,5 +1,5 @@
 -- What links that are made for a plan, and given back, leave at their host.
-use Rattle.std.specs.Prelude.{◌≡◌, ℕ, Bool, List, [], ◌∷◌, map, fold, IsTrue}
+use Rattle.std.specs.Prelude.{◌≡◌, ℕ, Bool, List, map, fold, IsTrue}
 use Rattle.pfc_world.specs.Counts.{Rose}
 use Rattle.pfc_world.specs.Texts.{SpentAt}
 use Rattle.pfc_report.specs.Schedule.{Line, is_asked}

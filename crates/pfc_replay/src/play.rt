@@ -37,8 +37,10 @@ fn add_link<W: World, H: Host<W>>(
 ) -> Result<(), PlayRefusal>
     requires number { number ≤ 64 }
     requires room { vec_len links.old < vec_capacity links.old }
+    requires small { All (λ link. H.Link.number link ≤ 64) links.old.items }
     ensures ok { OnOk result (rows_of H.Link.number H.Link.calls H.Link.faults links.new.items ≡ rows_of H.Link.number H.Link.calls H.Link.faults links.old.items ++ (if wanted then (number, 0, 0) ∷ [] else [])) }
     ensures err { OnErr result (links.new.items ≡ links.old.items) }
+    ensures small { All (λ link. H.Link.number link ≤ 64) links.new.items }
     ensures len { vec_len links.new ≤ vec_len links.old + 1 }
     ensures capacity { vec_capacity links.new ≡ vec_capacity links.old }
     ensures cause { IfErr result (StopsAt number wanted (H.faults host.old) (H.faults host.new)) }
@@ -75,7 +77,10 @@ fn add_links<W: World, H: Host<W>>(
 {
     let wanted = plan.asked();
     for number in 1..CLIENTS as u32 + 1 {
-        add_link::<W, H>(alloc, host, links, number, wanted[number as usize])?;
+        match add_link::<W, H>(alloc, host, links, number, wanted[number as usize]) {
+            Ok(()) => (),
+            Err(refusal) => return Err(refusal),
+        }
     }
     Ok(())
 }

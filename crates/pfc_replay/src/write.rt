@@ -71,6 +71,15 @@ fn write_client<S: Sink>(
     Ok(())
 }
 
+/// Writes what is printed of a client.
+fn write_told<S: Sink>(alloc: Global, out: &mut S, told: &Told) -> Result<(), Refusal>
+    ensures ok { OnOk result (Appends S.told (S.written out.old) (S.written out.new) (told_text told.now)) }
+    ensures front { AppendsFront S.told (S.written out.old) (S.written out.new) (told_text told.now) }
+    ensures cause { RefusalCause (S.faults out.old) (S.faults out.new) result }
+{
+    write_client(alloc, out, told.number, told.replies.as_slice())
+}
+
 /// Writes what is printed of each client, one after the other.
 fn write_clients<S: Sink>(alloc: Global, out: &mut S, clients: &[Told]) -> Result<(), Refusal>
     ensures ok { OnOk result (Appends S.told (S.written out.old) (S.written out.new) (flat_map told_text clients.now)) }
@@ -78,7 +87,7 @@ fn write_clients<S: Sink>(alloc: Global, out: &mut S, clients: &[Told]) -> Resul
     ensures cause { RefusalCause (S.faults out.old) (S.faults out.new) result }
 {
     for told in clients {
-        write_client(alloc, out, told.number, told.replies.as_slice())?;
+        write_told(alloc, out, told)?;
     }
     Ok(())
 }

@@ -8,8 +8,8 @@ use Rattle.pfc_replay.proofs.play.add_links.Given as goal
 
 abbrev pub invariant-loop-number : goal.invariant-loop-number
 invariant-loop-number g l = record {
-  rows : rows_of g.H.Link.number g.H.Link.calls g.H.Link.faults l.links.items ≡ fresh_rows (filter (is_asked l.plan) (range_with_len 1 (l.number - 1)));
-  small : All (λ link. g.H.Link.number link ≤ 64) l.links.items;
+  rows : rows_of g.H.Link.Origin.number g.H.Link.Origin.calls g.H.Link.Origin.faults l.links.items ≡ fresh_rows (filter (is_asked l.plan) (range_with_len 1 (l.number - 1)));
+  small : All (λ link. g.H.Link.Origin.number link ≤ 64) l.links.items;
   count : vec_len l.links + 1 ≤ l.number;
   room : 64 ≤ vec_capacity l.links;
   faults : g.H.Sources.faults l.fn.host ≤ g.H.Sources.faults l.host;
