@@ -10,4 +10,6 @@ mod write;
 pub use replay::run_replay;
 
 #[cfg(test)]
+mod shared_cases;
+#[cfg(test)]
 mod tests;

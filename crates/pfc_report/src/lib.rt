@@ -6,3 +6,6 @@ mod schedule;
 
 pub use report::{Replies, Report, Section, Told};
 pub use schedule::{CLIENTS, Plan, SCHEDULE_LIMIT, ScheduleRefusal, Step, read_schedule};
+
+#[cfg(test)]
+mod tests;
