@@ -1,12 +1,15 @@
 -- What was read of a configuration says what the whole of it comes to.
-use Rattle.std.proofs.Common.{◌≡◌, ℕ, ◌+◌, ◌<◌, ◌≤◌, List, length, take, sym, ap, ◌∙◌, arith, take_all, length-take, Bool, true, false, subst, refl}
+use Rattle.std.proofs.Common.{◌≡◌, ℕ, ◌<◌, ◌≤◌, List, length, take, sym, ap, ◌∙◌, arith, take_all, length-take, Bool, true, false, subst, refl}
 use Rattle.std.specs.Prelude.{Option, Some, None, Result, IsSomeAnd, nat_le}
 use Rattle.std.proofs.lemmas.Bool.Decides.{nat_tests}
 use Rattle.pfc_config.specs.declared.config.Config.{Config}
 use Rattle.pfc_config.specs.declared.refusal.ConfigRefusal.{ConfigRefusal}
 use Rattle.pfc_config.specs.Config.{configured}
 use Rattle.pfc_config.proofs.Reading.{configured-long}
-use Rattle.pfc_replay.proofs.Schedules.{by_bool}
+
+pub by_bool : {C : Type 0} → (q : Bool) → (q ≡ true → C) → (q ≡ false → C) → C
+by_bool true t f = t refl
+by_bool false t f = f refl
 
 -- one byte more than a configuration may have says it all
 configured-take : (capacity : ℕ) (all : List ℕ) → configured (take 1048577 all) capacity ≡ configured all capacity

@@ -55,3 +55,14 @@ pub client_text-all : (number i : ℕ) (replies : List Reply) → 0 < length rep
 client_text-all number i replies some high =
     client_text-some number replies some ∙ ap (λ rs. head_text number ++ flat_map line_text rs) (sym (take_all i replies high))
     ∙ sym (append-nil (head_text number ++ flat_map line_text (take i replies)))
+
+-- what is before the text of one item, that text, and what is behind it
+pub flat_map-at : {X : Type 0} (f : X → List ℕ) (xs : List X) (i : ℕ) (x : X) → i < length xs → slice_index_or xs i x ≡ x →
+    flat_map f xs ≡ flat_map f (take i xs) ++ (f x ++ flat_map f (drop (i + 1) xs))
+flat_map-at f xs i x low is =
+    let rest : drop i xs ≡ x ∷ drop (i + 1) xs = drop_more xs i x low ∙ ap (λ y. y ∷ drop (i + 1) xs) is in
+    ap (flat_map f) (sym (take-append-drop i xs)) ∙ flat_map-append f (take i xs) (drop i xs) ∙ ap (λ ys. flat_map f (take i xs) ++ flat_map f ys) rest
+
+-- all of it
+pub flat_map-all : {X : Type 0} (f : X → List ℕ) (xs : List X) (i : ℕ) → length xs ≤ i → flat_map f xs ≡ flat_map f (take i xs) ++ ([] ++ [])
+flat_map-all f xs i high = ap (flat_map f) (sym (take_all i xs high)) ∙ sym (append-nil (flat_map f (take i xs)))

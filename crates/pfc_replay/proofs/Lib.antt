@@ -1,9 +1,7 @@
 pub mod Capacities
 pub mod Configs
 pub mod Fronts
-pub mod Lines
 pub mod Outcomes
-pub mod Pieces
-pub mod Replies
+pub mod Spending
+pub mod Lifted
 pub mod Schedules
-pub mod Sessions

@@ -1,6 +1,4 @@
 pub mod Outcome
-pub mod Refusal
+pub mod Play
 pub mod Run
-pub mod Schedule
-pub mod Serve
 pub mod Words

@@ -1,31 +1,32 @@
 -- What a run comes to: its cause, its status and its text.
-use Rattle.std.specs.Prelude.{◌≡◌, ℕ, ◌⊎◌, ◌++◌, Bool, true, List, codes, count_by, map, IsTrue, Option, Some, None, is_ok, Result, Ok, Err, IsSomeAnd}
+use Rattle.std.specs.Prelude.{◌≡◌, ℕ, ◌++◌, Bool, List, All, codes, count_by, IsTrue, Some, None, Ok, Err, IsSomeAnd}
 use Rattle.std.specs.Fmt.{decimal}
 use Rattle.pfc_world.specs.Files.{Files, file_at}
 use Rattle.pfc_world.specs.Counts.{Rose, Stayed}
 use Rattle.pfc_world.specs.Texts.{Texts, Appends, AppendsFront}
-use Rattle.pfc_client.specs.declared.reply.Reply.{Reply}
-use Rattle.pfc_client.specs.Permitted.{ArePermitted, ArePlain, is_memory}
-use Rattle.pfc_client.specs.Replies.{client_text}
+use Rattle.pfc_client.specs.Permitted.{ArePlain, is_memory}
+use Rattle.pfc_config.specs.declared.config.Config.{Config}
 use Rattle.pfc_config.specs.declared.refusal.ConfigRefusal.{ConfigRefusal}
 use Rattle.pfc_config.specs.declared.refusal.ConfigRefusal.TheVariants.{Bad}
-use Rattle.pfc_config.specs.Config.{configured}
+use Rattle.pfc_config.specs.Config.{configured, IsWithinRanges}
 use Rattle.pfc_config.specs.Kind.{kind_text}
+use Rattle.pfc_report.specs.Schedule.{Line, schedule_of, asked, is_asked}
+use Rattle.pfc_report.specs.Report.{ReportView, report_text}
+use Rattle.pfc_report.specs.Caused.{Spent, IsCausedReport}
 use Rattle.pfc_replay.specs.Words.{Call, call_of}
-use Rattle.pfc_replay.specs.Schedule.{schedule_of}
 use Rattle.pfc_replay.specs.declared.outcome.Outcome.{Outcome}
-use Rattle.pfc_replay.specs.declared.outcome.Outcome.TheVariants.{Replies, Usage, Config, Schedule, Fault}
+use Rattle.pfc_replay.specs.declared.outcome.Outcome.TheVariants as out
 use Rattle.pfc_replay.specs.declared.outcome.Part.{Part}
 use Rattle.pfc_replay.specs.declared.outcome.Part.TheVariants as part
 
 -- ---- status and text
 
 abbrev pub status_of : Outcome → ℕ
-status_of (Replies replies) = 0
-status_of Usage = 1
-status_of (Config line kind) = 2
-status_of (Schedule line) = 2
-status_of (Fault part) = 3
+status_of (out.Report report) = 0
+status_of out.Usage = 1
+status_of (out.Config line kind) = 2
+status_of (out.Schedule line) = 2
+status_of (out.Fault part) = 3
 
 abbrev pub part_text : Part → List ℕ
 part_text part.Config = codes "config"
@@ -33,15 +34,15 @@ part_text part.Schedule = codes "schedule"
 part_text (part.Link number) = codes "link " ++ decimal number
 
 abbrev pub text_of : Outcome → List ℕ
-text_of (Replies replies) = client_text 1 replies
-text_of Usage = codes "usage: xcache_replay <config> <origin> <cache> <capacity> <schedule> | generate <number>\n"
-text_of (Config line kind) = codes "config " ++ decimal line ++ codes " " ++ kind_text kind ++ codes "\n"
-text_of (Schedule line) = codes "schedule " ++ decimal line ++ codes "\n"
-text_of (Fault part) = codes "fault " ++ part_text part ++ codes "\n"
+text_of (out.Report report) = report_text report
+text_of out.Usage = codes "usage: xcache_replay <config> <origin> <cache> <capacity> <schedule> | generate <number>\n"
+text_of (out.Config line kind) = codes "config " ++ decimal line ++ codes " " ++ kind_text kind ++ codes "\n"
+text_of (out.Schedule line) = codes "schedule " ++ decimal line ++ codes "\n"
+text_of (out.Fault part) = codes "fault " ++ part_text part ++ codes "\n"
 
 -- the outcome of a configuration that is refused
 abbrev pub outcome_of : ConfigRefusal → Outcome
-outcome_of (Bad line kind) = Config line kind
+outcome_of (Bad line kind) = out.Config line kind
 
 -- ---- cause
 
@@ -55,29 +56,34 @@ pub record Asked : Type 0 where
 abbrev pub SaysOf : Asked → List ℕ → (List ℕ → Type 0) → Type 0
 SaysOf asked name says = IsTrue asked.told → IsSomeAnd (file_at asked.texts name) says
 
--- the words are of the form, and the configuration that they name is taken
-pub record IsTaken (asked : Asked) (call : Call) : Type 0 where
-  pub words : call_of asked.words ≡ Some call
-  pub config : SaysOf asked call.config (λ text. is_ok (configured text call.capacity) ≡ true)
+-- the words are of the form, and the configuration that they name comes to this one
+pub record IsTaken (given : Asked) (call : Call) (config : Config) : Type 0 where
+  pub words : call_of given.words ≡ Some call
+  pub says : SaysOf given call.config (λ text. configured text call.capacity ≡ Ok config)
+  pub ranges : IsWithinRanges call.capacity config
 
--- how far a run had come when this of the host failed
+-- the words and the configuration are taken, and the schedule that they name says these lines
+pub record IsPlanned (given : Asked) (call : Call) (config : Config) (lines : List Line) : Type 0 where
+  pub taken : IsTaken given call config
+  pub says : SaysOf given call.schedule (λ text. schedule_of text ≡ Ok lines)
+
+-- how far a run had come when this of the host failed; the link is that of a client which is asked something
 abbrev pub Reaches : Asked → Part → Type 0
-Reaches asked part.Config = (call : Call) × (call_of asked.words ≡ Some call)
-Reaches asked part.Schedule = (call : Call) × IsTaken asked call
-Reaches asked (part.Link number) =
-    (number ≡ 1) × (call : Call) × IsTaken asked call × (lines : List (List ℕ)) × SaysOf asked call.schedule (λ text. schedule_of text ≡ Ok lines)
+Reaches given part.Config = (call : Call) × (call_of given.words ≡ Some call)
+Reaches given part.Schedule = (call : Call) × (config : Config) × IsTaken given call config
+Reaches given (part.Link number) = (call : Call) × (config : Config) × (lines : List Line) × IsPlanned given call config lines × IsTrue (is_asked lines number)
 
--- The cause of an outcome, with the counts before and after of the host's faults and of the faults of client 1's link.
-abbrev pub Causes : Bool → Files → Asked → ℕ → ℕ → ℕ → ℕ → Outcome → Type 0
-Causes told files asked host host' link link' (Replies replies) =
-    (call : Call) × IsTaken asked call × (lines : List (List ℕ)) × SaysOf asked call.schedule (λ text. schedule_of text ≡ Ok lines)
-    × ArePermitted told files lines replies link link'
-Causes told files asked host host' link link' Usage = call_of asked.words ≡ None
-Causes told files asked host host' link link' (Config line kind) =
-    (call : Call) × (call_of asked.words ≡ Some call) × SaysOf asked call.config (λ text. configured text call.capacity ≡ Err (Bad line kind))
-Causes told files asked host host' link link' (Schedule line) =
-    (call : Call) × IsTaken asked call × SaysOf asked call.schedule (λ text. schedule_of text ≡ Err line)
-Causes told files asked host host' link link' (Fault part) = Rose host host' × Reaches asked part
+-- The cause of an outcome, with the counts before and after of the host's faults and of what the clients' links have spent.
+abbrev pub Causes : Bool → Files → Asked → ℕ → ℕ → Spent → Spent → Outcome → Type 0
+Causes told files given host host' before after (out.Report report) =
+    (call : Call) × (config : Config) × (lines : List Line) × IsPlanned given call config lines
+    × IsCausedReport told files config.blocksize lines before after report
+Causes told files given host host' before after out.Usage = call_of given.words ≡ None
+Causes told files given host host' before after (out.Config line kind) =
+    (call : Call) × (call_of given.words ≡ Some call) × SaysOf given call.config (λ text. configured text call.capacity ≡ Err (Bad line kind))
+Causes told files given host host' before after (out.Schedule line) =
+    (call : Call) × (config : Config) × IsTaken given call config × SaysOf given call.schedule (λ text. schedule_of text ≡ Err line)
+Causes told files given host host' before after (out.Fault part) = Rose host host' × Reaches given part
 
 -- what came to the sink is the text of such an outcome, and its status is the answer
 abbrev pub Writes : (Outcome → Type 0) → ℕ → Bool → List ℕ → List ℕ → Type 0
@@ -87,15 +93,21 @@ Writes cause result sink old new = (outcome : Outcome) × cause outcome × (resu
 abbrev pub WritesFront : (Outcome → Type 0) → Bool → List ℕ → List ℕ → Type 0
 WritesFront cause sink old new = (outcome : Outcome) × cause outcome × AppendsFront sink old new (text_of outcome)
 
--- the replies where the link had no fault: but for want of memory they are the plain ones
-abbrev pub WritesPlain : Bool → Files → Asked → Bool → List ℕ → List ℕ → Type 0
-WritesPlain told files asked sink old new =
-    (replies : List Reply) × (call : Call) × IsTaken asked call × (lines : List (List ℕ)) × SaysOf asked call.schedule (λ text. schedule_of text ≡ Ok lines)
-    × (count_by is_memory replies ≡ 0 → ArePlain told files lines replies) × Appends sink old new (client_text 1 replies)
+-- each client whose link had no fault, and none of whose replies is want of memory, was told the plain replies
+abbrev pub ArePlainWhereUnhurt : Bool → Files → List Line → Spent → Spent → ReportView → Type 0
+ArePlainWhereUnhurt told files lines before after report =
+    All (λ c. Stayed (before c.number).1 (after c.number).1 → count_by is_memory c.replies ≡ 0 → ArePlain told files (asked c.number lines) c.replies) report.clients
+
+-- what came to the sink is the text of such a report
+abbrev pub WritesPlain : Bool → Files → Asked → Spent → Spent → Bool → List ℕ → List ℕ → Type 0
+WritesPlain told files given before after sink old new =
+    (report : ReportView) × (call : Call) × (config : Config) × (lines : List Line) × IsPlanned given call config lines
+    × IsCausedReport told files config.blocksize lines before after report × ArePlainWhereUnhurt told files lines before after report
+    × Appends sink old new (report_text report)
 
 -- The host tells its texts, the words, the configuration and the schedule are of the form, and no count rose.
-pub record IsUnhindered (asked : Asked) (host host' sink sink' : ℕ) : Type 0 where
-  pub told : IsTrue asked.told
-  pub call : (call : Call) × IsTaken asked call × SaysOf asked call.schedule (λ text. is_ok (schedule_of text) ≡ true)
+pub record IsUnhindered (given : Asked) (host host' sink sink' : ℕ) : Type 0 where
+  pub told : IsTrue given.told
+  pub call : (call : Call) × (config : Config) × (lines : List Line) × IsPlanned given call config lines
   pub host_stayed : Stayed host host'
   pub sink_stayed : Stayed sink sink'

@@ -1,5 +1,5 @@
 -- The words of the call.
-use Rattle.std.specs.Prelude.{◌≡◌, ℕ, ◌^◌, Bool, nat_le, ◌&&◌, List, [], ◌∷◌, Option, Some, None, option_map, if◌then◌else◌}
+use Rattle.std.specs.Prelude.{ℕ, ◌^◌, Bool, nat_le, ◌&&◌, List, [], ◌∷◌, Option, Some, None, option_map, if◌then◌else◌}
 use Rattle.pfc_base.specs.Number.{size_of_text}
 
 -- what the words name: the sources of the configuration and of the schedule, and the capacity in bytes

@@ -1,14 +1,15 @@
-//! The replay: requests in an order that a schedule names, and the theorem on their replies.
+//! The replay: requests of clients and their steps in an order that a schedule names, and the theorem on what is reported.
 #![tactic(auto)]
 
 mod outcome;
+mod play;
 mod replay;
-mod schedule;
-mod serve;
 mod words;
 mod write;
 
 pub use replay::run_replay;
 
+#[cfg(test)]
+mod shared_cases;
 #[cfg(test)]
 mod tests;

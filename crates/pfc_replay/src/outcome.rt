@@ -1,38 +1,8 @@
 ghost use Rattle.std.specs.Prelude.{◌≡◌};
 ghost use Rattle.pfc_replay.specs.Outcome.{outcome_of, status_of};
 
-use pfc_client::Reply;
 use pfc_config::{ConfigRefusal, Kind};
-use std::marker::Model;
-
-/// Replies in the order of the requests, which contracts see as a list.
-#[derive(Drop)]
-pub struct Replies {
-    replies: Vec<Reply>,
-}
-
-impl Model for Replies {
-    ghost use Rattle.std.specs.Prelude.{List};
-    ghost use Rattle.pfc_client.specs.declared.reply.Reply.{Reply};
-
-    ghost Value = { List Reply };
-
-    ghost view = { λ r. r.replies.items };
-}
-
-impl Replies {
-    pub fn new(replies: Vec<Reply>) -> Replies
-        ensures { result ≡ replies.items }
-    {
-        Replies { replies }
-    }
-
-    pub fn as_slice(&self) -> &[Reply]
-        ensures { result.now ≡ self.now }
-    {
-        &self.replies
-    }
-}
+use pfc_report::Report;
 
 /// What of the host failed.
 #[derive(Clone, Copy, Debug, PartialEq, Eq)]
@@ -49,7 +19,7 @@ pub enum Part {
 #[derive(Drop)]
 pub enum Outcome {
     /// The schedule was run.
-    Replies(Replies),
+    Report(Report),
     /// The words are not of the form.
     Usage,
     /// The configuration is refused for this line, 0 for its length.
@@ -76,7 +46,7 @@ impl Outcome {
         ensures { result ≡ status_of self.now }
     {
         match self {
-            Outcome::Replies(_) => 0,
+            Outcome::Report(_) => 0,
             Outcome::Usage => 1,
             Outcome::Config { .. } => 2,
             Outcome::Schedule { .. } => 2,

@@ -1,18 +1,16 @@
 ghost use Rattle.std.specs.Prelude.{◌≡◌, ◌+◌, ◌<◌, ◌≤◌, ◌⊎◌, ℕ, Some, Ok, Err, map, string_bytes, take, vec_len, IfOk, IfErr, IsSomeAnd, IsTrue};
 ghost use Rattle.pfc_world.specs.Counts.{Rose, RefusalCause, Stayed};
 ghost use Rattle.pfc_world.specs.Files.{file_at};
-ghost use Rattle.pfc_client.specs.Permitted.{ArePermitted};
 ghost use Rattle.pfc_replay.specs.Outcome.{Asked, Causes, Writes, WritesFront, WritesPlain, IsUnhindered};
 ghost use Rattle.pfc_replay.specs.Run.{Runs};
 
-use crate::outcome::{Outcome, Part, Replies};
-use crate::schedule::{SCHEDULE_LIMIT, ScheduleRefusal, read_schedule};
-use crate::serve::serve_all;
+use crate::outcome::{Outcome, Part};
+use crate::play::{PlayRefusal, play};
 use crate::words::read_words;
 use crate::write::write_outcome;
 use pfc_base::Memory;
-use pfc_client::Reply;
 use pfc_config::read_config;
+use pfc_report::{SCHEDULE_LIMIT, ScheduleRefusal, read_schedule};
 use pfc_world::{Host, Refusal, Sink, Sources, World, read_text};
 use std::alloc::Global;
 
@@ -37,27 +35,6 @@ fn fetch_text<H: Sources>(
     text
 }
 
-/// The replies to client 1, over a link of its own.
-fn run_client<W: World, H: Host<W>>(
-    alloc: Global,
-    host: &mut H,
-    lines: &[&[u8]],
-    block_size: u64,
-) -> Result<Vec<Reply>, Refusal>
-    requires least { 4096 ≤ block_size }
-    requires most { block_size ≤ 16777216 }
-    ensures permitted { IfOk result (λ replies. ArePermitted W.told W.files (map (λ line. line.now) lines.now) replies.items (H.spent host.old 1).1 (H.spent host.new 1).1) }
-    ensures cause { RefusalCause (H.faults host.old) (H.faults host.new) result }
-{
-    if lines.is_empty() {
-        return Ok(Vec::new(alloc));
-    }
-    let mut link = host.link(alloc, 1)?;
-    let replies = serve_all(alloc, &mut link, lines, block_size);
-    host.back(link);
-    Ok(replies?)
-}
-
 /// Runs the schedule of a name, with files in blocks of so many bytes.
 fn run_schedule<W: World, H: Host<W>>(
     alloc: Global,
@@ -67,22 +44,22 @@ fn run_schedule<W: World, H: Host<W>>(
 ) -> Result<Outcome, Memory>
     requires least { 4096 ≤ block_size }
     requires most { block_size ≤ 16777216 }
-    ensures { IfOk result (Runs W.told W.files H.told (H.texts host.old) name.now (H.faults host.old) (H.faults host.new) (H.spent host.old 1).1 (H.spent host.new 1).1) }
+    ensures { IfOk result (Runs W.told W.files block_size H.told (H.texts host.old) name.now (H.faults host.old) (H.faults host.new) (H.spent host.old) (H.spent host.new)) }
 {
     let text = match fetch_text(alloc, host, name, SCHEDULE_LIMIT + 1) {
         Ok(text) => text,
         Err(Refusal::Fault) => return Ok(Outcome::Fault(Part::Schedule)),
         Err(Refusal::Memory) => return Err(Memory),
     };
-    let lines = match read_schedule(alloc, &text) {
-        Ok(lines) => lines,
+    let plan = match read_schedule(alloc, &text) {
+        Ok(plan) => plan,
         Err(ScheduleRefusal::Bad { line }) => return Ok(Outcome::Schedule { line }),
         Err(ScheduleRefusal::Memory) => return Err(Memory),
     };
-    match run_client::<W, H>(alloc, host, &lines, block_size) {
-        Ok(replies) => Ok(Outcome::Replies(Replies::new(replies))),
-        Err(Refusal::Fault) => Ok(Outcome::Fault(Part::Link(1))),
-        Err(Refusal::Memory) => Err(Memory),
+    match play::<W, H>(alloc, host, &plan, block_size) {
+        Ok(report) => Ok(Outcome::Report(report)),
+        Err(PlayRefusal::Link { number }) => Ok(Outcome::Fault(Part::Link(number))),
+        Err(PlayRefusal::Memory) => Err(Memory),
     }
 }
 
@@ -92,7 +69,7 @@ fn run<W: World, H: Host<W>>(
     words: &[String],
     host: &mut H,
 ) -> Result<Outcome, Memory>
-    ensures { IfOk result (Causes W.told W.files (record { told = H.told; texts = H.texts host.old; words = map string_bytes words.now }) (H.faults host.old) (H.faults host.new) (H.spent host.old 1).1 (H.spent host.new 1).1) }
+    ensures { IfOk result (Causes W.told W.files (record { told = H.told; texts = H.texts host.old; words = map string_bytes words.now }) (H.faults host.old) (H.faults host.new) (H.spent host.old) (H.spent host.new)) }
 {
     let call = match read_words(words) {
         None => return Ok(Outcome::Usage),
@@ -119,15 +96,15 @@ pub fn run_replay<W: World, H: Host<W>, S: Sink>(
     out: &mut S,
 ) -> u8
     // What was written is the text of an outcome that has its cause, whole, and the answer is its status ..
-    ensures whole { result ≤ 3 → Writes (Causes W.told W.files (record { told = H.told; texts = H.texts host.old; words = map string_bytes words.now }) (H.faults host.old) (H.faults host.new) (H.spent host.old 1).1 (H.spent host.new 1).1) result S.told (S.written out.old) (S.written out.new) }
+    ensures whole { result ≤ 3 → Writes (Causes W.told W.files (record { told = H.told; texts = H.texts host.old; words = map string_bytes words.now }) (H.faults host.old) (H.faults host.new) (H.spent host.old) (H.spent host.new)) result S.told (S.written out.old) (S.written out.new) }
     // .. or a front of it, where the sink failed ..
-    ensures sink { result ≡ 4 → Rose (S.faults out.old) (S.faults out.new) × WritesFront (Causes W.told W.files (record { told = H.told; texts = H.texts host.old; words = map string_bytes words.now }) (H.faults host.old) (H.faults host.new) (H.spent host.old 1).1 (H.spent host.new 1).1) S.told (S.written out.old) (S.written out.new) }
+    ensures sink { result ≡ 4 → Rose (S.faults out.old) (S.faults out.new) × WritesFront (Causes W.told W.files (record { told = H.told; texts = H.texts host.old; words = map string_bytes words.now }) (H.faults host.old) (H.faults host.new) (H.spent host.old) (H.spent host.new)) S.told (S.written out.old) (S.written out.new) }
     // .. or a front of it, or nothing, where memory ran out.
-    ensures memory { result ≡ 5 → (S.written out.new ≡ S.written out.old) ⊎ WritesFront (Causes W.told W.files (record { told = H.told; texts = H.texts host.old; words = map string_bytes words.now }) (H.faults host.old) (H.faults host.new) (H.spent host.old 1).1 (H.spent host.new 1).1) S.told (S.written out.old) (S.written out.new) }
+    ensures memory { result ≡ 5 → (S.written out.new ≡ S.written out.old) ⊎ WritesFront (Causes W.told W.files (record { told = H.told; texts = H.texts host.old; words = map string_bytes words.now }) (H.faults host.old) (H.faults host.new) (H.spent host.old) (H.spent host.new)) S.told (S.written out.old) (S.written out.new) }
     ensures last { result ≤ 5 }
 
-    // Where the client's link had no fault, the replies are the plain ones, but for want of memory.
-    ensures plain { result ≡ 0 → Stayed (H.spent host.old 1).1 (H.spent host.new 1).1 → WritesPlain W.told W.files (record { told = H.told; texts = H.texts host.old; words = map string_bytes words.now }) S.told (S.written out.old) (S.written out.new) }
+    // A client whose link had no fault is told the plain replies, but for want of memory.
+    ensures plain { result ≡ 0 → WritesPlain W.told W.files (record { told = H.told; texts = H.texts host.old; words = map string_bytes words.now }) (H.spent host.old) (H.spent host.new) S.told (S.written out.old) (S.written out.new) }
     // Where all is of the form and nothing failed, the schedule is run, unless memory runs out.
     ensures complete { IsUnhindered (record { told = H.told; texts = H.texts host.old; words = map string_bytes words.now }) (H.faults host.old) (H.faults host.new) (S.faults out.old) (S.faults out.new) → (result ≡ 0) ⊎ (result ≡ 5) }
 {

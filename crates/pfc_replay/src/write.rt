@@ -5,11 +5,15 @@ ghost use Rattle.pfc_world.specs.Texts.{Appends, AppendsFront};
 ghost use Rattle.pfc_replay.specs.Outcome.{text_of, part_text};
 ghost use Rattle.pfc_replay.specs.declared.outcome.Outcome.TheVariants as outcome;
 ghost use Rattle.pfc_client.specs.Replies.{client_text, head_text, line_text};
+ghost use Rattle.std.specs.List.{flat_map};
+ghost use Rattle.pfc_report.specs.Report.{told_text, section_text, report_text};
 
 use crate::outcome::{Outcome, Part};
 use pfc_base::{Memory, push_number, push_word};
 use pfc_client::{Reply, push_reply};
 use pfc_config::Kind;
+use pfc_log::push_log;
+use pfc_report::{Report, Section, Told};
 use pfc_world::{Refusal, Sink, write_text};
 use std::alloc::Global;
 
@@ -64,6 +68,62 @@ fn write_client<S: Sink>(
     for reply in replies {
         write_reply(alloc, out, &mut line, reply)?;
     }
+    Ok(())
+}
+
+/// Writes what is printed of a client.
+fn write_told<S: Sink>(alloc: Global, out: &mut S, told: &Told) -> Result<(), Refusal>
+    ensures ok { OnOk result (Appends S.told (S.written out.old) (S.written out.new) (told_text told.now)) }
+    ensures front { AppendsFront S.told (S.written out.old) (S.written out.new) (told_text told.now) }
+    ensures cause { RefusalCause (S.faults out.old) (S.faults out.new) result }
+{
+    write_client(alloc, out, told.number, told.replies.as_slice())
+}
+
+/// Writes what is printed of each client, one after the other.
+fn write_clients<S: Sink>(alloc: Global, out: &mut S, clients: &[Told]) -> Result<(), Refusal>
+    ensures ok { OnOk result (Appends S.told (S.written out.old) (S.written out.new) (flat_map told_text clients.now)) }
+    ensures front { AppendsFront S.told (S.written out.old) (S.written out.new) (flat_map told_text clients.now) }
+    ensures cause { RefusalCause (S.faults out.old) (S.faults out.new) result }
+{
+    for told in clients {
+        write_told(alloc, out, told)?;
+    }
+    Ok(())
+}
+
+/// Writes the section of one log, by one write where the sink takes it whole.
+fn write_section<S: Sink>(alloc: Global, out: &mut S, section: &Section) -> Result<(), Refusal>
+    ensures ok { OnOk result (Appends S.told (S.written out.old) (S.written out.new) (section_text section.now)) }
+    ensures front { AppendsFront S.told (S.written out.old) (S.written out.new) (section_text section.now) }
+    ensures cause { RefusalCause (S.faults out.old) (S.faults out.new) result }
+{
+    let mut text = Vec::new(alloc);
+    push_log(alloc, &mut text, &section.path, &section.log)?;
+    write_text(out, &text)?;
+    Ok(())
+}
+
+/// Writes the sections of logs, one after the other.
+fn write_logs<S: Sink>(alloc: Global, out: &mut S, logs: &[Section]) -> Result<(), Refusal>
+    ensures ok { OnOk result (Appends S.told (S.written out.old) (S.written out.new) (flat_map section_text logs.now)) }
+    ensures front { AppendsFront S.told (S.written out.old) (S.written out.new) (flat_map section_text logs.now) }
+    ensures cause { RefusalCause (S.faults out.old) (S.faults out.new) result }
+{
+    for section in logs {
+        write_section(alloc, out, section)?;
+    }
+    Ok(())
+}
+
+/// Writes a report: the clients, then the logs. After a refusal a front of it is written.
+fn write_report<S: Sink>(alloc: Global, out: &mut S, report: &Report) -> Result<(), Refusal>
+    ensures ok { OnOk result (Appends S.told (S.written out.old) (S.written out.new) (report_text report.now)) }
+    ensures front { AppendsFront S.told (S.written out.old) (S.written out.new) (report_text report.now) }
+    ensures cause { RefusalCause (S.faults out.old) (S.faults out.new) result }
+{
+    write_clients(alloc, out, report.clients())?;
+    write_logs(alloc, out, report.logs())?;
     Ok(())
 }
 
@@ -146,7 +206,7 @@ pub fn write_outcome<S: Sink>(alloc: Global, out: &mut S, outcome: &Outcome) -> 
     ensures cause { RefusalCause (S.faults out.old) (S.faults out.new) result }
 {
     match outcome {
-        Outcome::Replies(replies) => write_client(alloc, out, 1, replies.as_slice()),
+        Outcome::Report(report) => write_report(alloc, out, report),
         Outcome::Usage => write_usage(out),
         Outcome::Config { line, kind } => write_config(alloc, out, *line, *kind),
         Outcome::Schedule { line } => write_schedule(alloc, out, *line),

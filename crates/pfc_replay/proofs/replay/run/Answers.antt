@@ -1,5 +1,5 @@
-use Rattle.std.proofs.Common.{◌≡◌, sym, ap, ◌∙◌, map, true}
-use Rattle.std.specs.Prelude.{Ok, Err, is_ok, string_bytes}
+use Rattle.std.proofs.Common.{◌≡◌, sym, ap, ◌∙◌, map}
+use Rattle.std.specs.Prelude.{Ok, Err, string_bytes}
 use Rattle.pfc_config.specs.Config.{configured}
 use Rattle.pfc_replay.proofs.Configs.{config-read}
 use Rattle.pfc_replay.proofs.Outcomes.{caused-result, config-refused}
@@ -24,14 +24,15 @@ returns-in-Err g c =
 pub returns : goal.returns
 returns g c =
     let capacity = c.in-Some.call.capacity in
+    let config = c.in-Ok-read_config.config in
     caused-result g.W.World.told g.W.World.files
     (record { told = g.H.Sources.told; texts = g.H.Sources.texts c.args.host.now; words = map string_bytes c.args.words.now })
-    (record { config = c.in-Some.call.config.now; capacity = capacity; schedule = c.in-Some.call.schedule.now })
-    _ (g.H.Sources.faults c.fetch_text.new.host) _ _ _ c.run_schedule.result
+    (record { config = c.in-Some.call.config.now; capacity = capacity; schedule = c.in-Some.call.schedule.now }) config
+    _ (g.H.Sources.faults c.fetch_text.new.host) _ (g.H.Sources.texts c.fetch_text.new.host) _ (g.H.Sources.spent c.fetch_text.new.host) _ c.run_schedule.result
     (record {
       words = sym c.in-Some.ensures;
-      config = λ told. config-read (λ r. is_ok r ≡ true) capacity _ _ (c.in-Ok.ensures.text told)
-          (ap (λ t. is_ok (configured t capacity)) (sym c.deref.ensures.value) ∙ ap is_ok (sym c.in-Ok-read_config.ensures.value));
+      says = λ told. config-read (λ r. r ≡ Ok config) capacity _ _ (c.in-Ok.ensures.text told)
+          (ap (λ t. configured t capacity) (sym c.deref.ensures.value) ∙ sym c.in-Ok-read_config.ensures.value);
+      ranges = c.in-Ok-read_config.ensures.ranges;
     })
-    c.in-Ok.ensures.cause
-    (rw (c.in-Ok.ensures.texts, c.in-Ok.ensures.spent 1) at c.run_schedule.ensures)
+    c.in-Ok.ensures.cause c.in-Ok.ensures.texts c.in-Ok.ensures.spent c.run_schedule.ensures

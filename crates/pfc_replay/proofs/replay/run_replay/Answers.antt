@@ -5,8 +5,8 @@ use Rattle.pfc_replay.proofs.replay.run_replay.Goals as goal
 
 pub returns-in-Ok-write_outcome-clause-plain : goal.returns-in-Ok-write_outcome-clause-plain
 returns-in-Ok-write_outcome-clause-plain g c =
-    λ zero stayed. plain-outcome g.W.World.told g.W.World.files
+    λ zero. plain-outcome g.W.World.told g.W.World.files
     (record { told = g.H.Sources.told; texts = g.H.Sources.texts c.args.host.now; words = map string_bytes c.args.words.now })
-    (g.H.Sources.faults c.args.host.now) (g.H.Sources.faults c.run.new.host) (g.H.Sources.spent c.args.host.now 1).1 (g.H.Sources.spent c.run.new.host 1).1
+    (g.H.Sources.faults c.args.host.now) (g.H.Sources.faults c.run.new.host) (g.H.Sources.spent c.args.host.now) (g.H.Sources.spent c.run.new.host)
     g.S.Sink.told (g.S.Sink.written c.args.out.now) (g.S.Sink.written c.write_outcome.new.out) c.in-Ok.outcome
-    c.in-Ok.ensures (sym c.status.ensures ∙ zero) stayed c.in-Ok-write_outcome.ensures.ok
+    c.in-Ok.ensures (sym c.status.ensures ∙ zero) c.in-Ok-write_outcome.ensures.ok

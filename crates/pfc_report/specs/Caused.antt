@@ -1,0 +1,135 @@
+-- Which reports are caused: what may be reported of a schedule, where the counts of the clients' links were these and are those.
+use Rattle.std.specs.Prelude.{◌≡◌, ◌≢◌, ℕ, ◌+◌, ◌*◌, ◌<◌, ◌≤◌, Bool, true, false, List, [], length, map, zip, All, AllPairs, sum_by, count_by, Result, Ok}
+use Rattle.pfc_base.specs.BlockSet.{is_member}
+use Rattle.pfc_world.specs.Files.{Files}
+use Rattle.pfc_world.specs.Counts.{RoseBy, last_count}
+use Rattle.pfc_client.specs.declared.request.Request.{Request}
+use Rattle.pfc_client.specs.declared.request.Request.TheVariants.{Open, Read}
+use Rattle.pfc_client.specs.declared.request.RequestRefusal.{RequestRefusal}
+use Rattle.pfc_client.specs.declared.reply.Reply.{Reply}
+use Rattle.pfc_client.specs.declared.reply.Reply.TheVariants as r
+use Rattle.pfc_client.specs.Requests.{request_of}
+use Rattle.pfc_client.specs.Permitted.{ArePermitted}
+use Rattle.pfc_log.specs.declared.start.Start.{Start}
+use Rattle.pfc_log.specs.declared.start.Start.TheVariants as start
+use Rattle.pfc_log.specs.Lawful.{IsComplete}
+use Rattle.pfc_log.specs.Tallies.{Tally, tally, nothing}
+use Rattle.pfc_report.specs.declared.report.Told.{Told}
+use Rattle.pfc_report.specs.declared.report.Section.{Section}
+use Rattle.pfc_report.specs.Schedule.{Line, asked, asked_clients}
+use Rattle.pfc_report.specs.Report.{ReportView}
+
+-- the calls and the faults of each client's link
+abbrev pub Spent : Type 0
+Spent = ℕ → ℕ × ℕ
+
+-- ---- what is counted of replies
+
+-- an open for which the origin was asked: its reply says what the origin answered, or that the call failed, or that memory
+-- was refused after it
+abbrev pub is_stat : Result Request RequestRefusal → Reply → Bool
+is_stat (Ok (Open number path)) (r.Size size) = true
+is_stat (Ok (Open number path)) r.NoFile = true
+is_stat (Ok (Open number path)) r.Fetch = true
+is_stat (Ok (Open number path)) r.Memory = true
+is_stat _ _ = false
+
+-- the bytes that a read asked for which got none of them
+abbrev pub lost_by : Result Request RequestRefusal → Reply → ℕ
+lost_by (Ok (Read number piece)) r.Fetch = piece.len
+lost_by (Ok (Read number piece)) r.Memory = piece.len
+lost_by _ _ = 0
+
+abbrev pub stats : List (List ℕ) → List Reply → ℕ
+stats lines replies = count_by (λ x. is_stat (request_of x.0) x.1) (zip lines replies)
+
+abbrev pub lost : List (List ℕ) → List Reply → ℕ
+lost lines replies = sum_by (λ x. lost_by (request_of x.0) x.1) (zip lines replies)
+
+abbrev pub is_size : Reply → Bool
+is_size (r.Size size) = true
+is_size _ = false
+
+abbrev pub is_bytes : Reply → Bool
+is_bytes (r.Bytes bytes) = true
+is_bytes _ = false
+
+abbrev pub bytes_in : Reply → ℕ
+bytes_in (r.Bytes bytes) = length bytes
+bytes_in _ = 0
+
+-- ---- what is counted of logs
+
+-- what client n did, by one log
+abbrev pub tally_in : ℕ → Section → Tally
+tally_in n section = tally n section.log.entries
+
+-- a count of what client n did, over all logs
+abbrev pub over : (Tally → ℕ) → ℕ → List Section → ℕ
+over count n logs = sum_by (λ section. count (tally_in n section)) logs
+
+-- ---- the parts
+
+-- the log starts with a store that has no block
+abbrev pub StartsEmpty : Start → Type 0
+StartsEmpty (start.Stored set) = (i : ℕ) → is_member set i ≡ false
+StartsEmpty (start.Uncached why) = ⊥
+
+-- those that were asked anything were told, in order of number, a reply to each request
+pub record AreTold (lines : List Line) (clients : List Told) : Type 0 where
+  pub numbers : map (λ told. told.number) clients ≡ asked_clients lines
+  pub each : All (λ told. length told.replies ≡ length (asked told.number lines)) clients
+
+-- each log is lawful to its end, at which nothing is in flight or in memory and each open was closed; each path has one log; no log
+-- starts with a block
+pub record AreComplete (logs : List Section) : Type 0 where
+  pub complete : All (λ section. IsComplete section.log.first section.log.entries) logs
+  pub paths : AllPairs (λ section other. section.path ≢ other.path) logs
+  pub starts : All (λ section. StartsEmpty section.log.first) logs
+
+-- the calls of a client's link that opens, flights and direct reads account for
+abbrev pub known_calls : ℕ → List (List ℕ) → List Reply → List Section → ℕ
+known_calls n lines replies logs =
+    stats lines replies + over (λ t. t.landed) n logs + over (λ t. t.faults) n logs + over (λ t. t.directs) n logs
+
+-- The calls of client n's link, as long as their count isn't at its end: one for each open that asked the origin, one for
+-- each of its flights that landed or failed by a fault, one for each of its direct reads, and at most one for each of its
+-- flights that failed for want of memory.
+pub record AreItsCalls (n : ℕ) (lines : List (List ℕ)) (replies : List Reply) (logs : List Section) (before after : ℕ) : Type 0 where
+  pub least : after < last_count → before + known_calls n lines replies logs ≤ after
+  pub most : after < last_count → after ≤ before + known_calls n lines replies logs + over (λ t. t.wants) n logs
+
+-- A client's reads in a log: their bytes are from blocks that the client found, waited for or read from the origin itself.
+pub record FitBlocks (k : ℕ) (t : Tally) : Type 0 where
+  pub hit : t.hit ≤ k * t.hits
+  pub missed : t.missed ≤ k * t.waits
+  pub bypassed : t.bypassed ≤ k * t.directs
+
+-- What the logs say that client n was served is what it was told: a `served` for each reply with bytes, and the same bytes
+-- together; an `opened` for each size.
+pub record IsServed (k n : ℕ) (replies : List Reply) (logs : List Section) : Type 0 where
+  pub served : over (λ t. t.served) n logs ≡ count_by is_bytes replies
+  pub bytes : over (λ t. t.hit) n logs + over (λ t. t.missed) n logs + over (λ t. t.bypassed) n logs ≡ sum_by bytes_in replies
+  pub opened : over (λ t. t.opened) n logs ≡ count_by is_size replies
+  pub blocks : All (λ section. FitBlocks k (tally_in n section)) logs
+
+-- Client n's flights that failed: no more of them by a fault than its link's faults rose, and no more of them in all than
+-- the bytes of its reads that came to nothing.
+pub record AreItsFailures (n : ℕ) (lines : List (List ℕ)) (replies : List Reply) (logs : List Section) (before after : ℕ) : Type 0 where
+  pub faults : RoseBy before (over (λ t. t.faults) n logs) after
+  pub reads : over (λ t. t.faults) n logs + over (λ t. t.wants) n logs ≤ lost lines replies
+
+-- a client that wasn't asked anything did nothing, by the counts of its link and by each log
+pub record IsUnasked (n : ℕ) (logs : List Section) (before after : ℕ × ℕ) : Type 0 where
+  pub spent : after ≡ before
+  pub logged : All (λ section. tally_in n section ≡ nothing) logs
+
+-- The report is caused: of files of this world, in blocks of k bytes, for what the schedule says.
+pub record IsCausedReport (told : Bool) (files : Files) (k : ℕ) (lines : List Line) (before after : Spent) (report : ReportView) : Type 0 where
+  pub clients : AreTold lines report.clients
+  pub permitted : All (λ c. ArePermitted told files (asked c.number lines) c.replies (before c.number).1 (after c.number).1) report.clients
+  pub complete : AreComplete report.logs
+  pub calls : All (λ c. AreItsCalls c.number (asked c.number lines) c.replies report.logs (before c.number).0 (after c.number).0) report.clients
+  pub served : All (λ c. IsServed k c.number c.replies report.logs) report.clients
+  pub failed : All (λ c. AreItsFailures c.number (asked c.number lines) c.replies report.logs (before c.number).1 (after c.number).1) report.clients
+  pub others : (n : ℕ) → asked n lines ≡ [] → IsUnasked n report.logs (before n) (after n)

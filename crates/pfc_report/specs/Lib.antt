@@ -1,0 +1,5 @@
+pub mod Schedule
+pub mod Plan
+pub mod Report
+pub mod Caused
+pub mod Spent

@@ -1,0 +1,68 @@
+use super::*;
+use std::alloc::Global;
+use std::test::Fail;
+
+/// The first bad line of a text, where it is refused.
+fn bad_line(alloc: Global, text: &str) -> Option<u64> {
+    match read_schedule(alloc, text.as_bytes()) {
+        Err(ScheduleRefusal::Bad { line }) => Some(line),
+        _ => None,
+    }
+}
+
+fn asks(step: &Step<'_>, number: u32, line: &[u8]) -> bool {
+    match step {
+        Step::Ask { client, rest } => *client == number && *rest == line,
+        Step::Go { .. } => false,
+    }
+}
+
+fn goes(step: &Step<'_>, number: u32, count: u32) -> bool {
+    match step {
+        Step::Ask { .. } => false,
+        Step::Go { client, times } => *client == number && *times == count,
+    }
+}
+
+#[test]
+fn a_schedule_of_each_form_is_read(rt: HostRuntime) -> Result<(), Fail> {
+    let text = "# a remark\n\nask 1 open 0 /a\ngo 64\nask 64 \ngo 2 10000\nask 3  two  spaces ";
+    let plan = match read_schedule(rt.alloc(), text.as_bytes()) {
+        Ok(plan) => plan,
+        Err(_) => return Err(Fail::from("refused")),
+    };
+    let steps = plan.steps();
+    assert_eq!(rt; steps.len(), 5);
+    if let [first, second, third, fourth, fifth] = steps {
+        assert!(rt; asks(first, 1, b"open 0 /a"));
+        assert!(rt; goes(second, 64, 1));
+        assert!(rt; asks(third, 64, b""));
+        assert!(rt; goes(fourth, 2, 10000));
+        assert!(rt; asks(fifth, 3, b" two  spaces "));
+    }
+    Ok(())
+}
+
+#[test]
+fn the_first_line_without_a_form_is_named(rt: HostRuntime) {
+    let table = [
+        ("go 65", 1),
+        ("go 0", 1),
+        ("go 1 0", 1),
+        ("go 1 10001", 1),
+        ("go 1 1 ", 1),
+        ("go 1 ", 1),
+        ("go  1", 1),
+        ("go", 1),
+        ("ask 1", 1),
+        ("ask 01 open 0 /a", 1),
+        ("ask 0 open 0 /a", 1),
+        ("Ask 1 open 0 /a", 1),
+        (" go 1", 1),
+        ("go 1\r", 1),
+        ("#\n\ngo 1\ngo x\ngo y\n", 4),
+    ];
+    for (text, line) in table {
+        assert_eq!(rt; bad_line(rt.alloc(), text), Some(line), "{text}");
+    }
+}
