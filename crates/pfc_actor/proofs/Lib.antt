@@ -1,1 +1,7 @@
 pub mod Books
+pub mod Tallied
+pub mod Steps
+pub mod Answering
+pub mod Entering
+pub mod Cores
+pub mod Holding

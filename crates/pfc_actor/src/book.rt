@@ -127,8 +127,10 @@ impl<W: World> Book<W> {
         requires size { size ≡ stay.size }
         requires right { HasSize W.told W.files stay.path stay.size }
         requires mine { IsStay self.old.number stay }
-        ensures { self.new ≡ record self.old { replies = self.old.replies ++ r.Size size ∷ []; stays = slice_set self.old.stays number (Some stay) } }
+        ensures weighs { (w : Mark → ℕ) → open_weight w self.new.stays ≡ open_weight w self.old.stays + w stay }
+        ensures opened { self.new ≡ record self.old { replies = self.old.replies ++ r.Size size ∷ []; stays = slice_set self.old.stays number (Some stay) } }
     {
+        self.stays.sixteen();
         match self.stays.put(number, stay) {
             Ok(()) => self.replies.push_reserved(Reply::Size(size)),
             Err(_) => unreachable!(),
@@ -142,6 +144,7 @@ impl<W: World> Book<W> {
         requires is { IsSome (place_at self.old.stays number) }
         ensures stay { result ≡ place_at self.old.stays number }
         ensures mine { IfSome result (λ stay. IsStay self.old.number stay) }
+        ensures weighs { IfSome result (λ stay. (w : Mark → ℕ) → open_weight w self.new.stays + w stay ≡ open_weight w self.old.stays) }
         ensures closed { self.new ≡ record self.old { replies = self.old.replies ++ r.Closed ∷ []; stays = slice_set self.old.stays number None } }
     {
         self.replies.push_reserved(Reply::Closed);

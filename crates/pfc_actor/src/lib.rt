@@ -2,5 +2,10 @@
 #![tactic(auto)]
 
 mod book;
+mod opening;
+mod reading;
+mod stage;
+mod taking;
 
 pub use book::Book;
+pub use stage::{Stage, Wanted};
