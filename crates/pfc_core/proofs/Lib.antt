@@ -5,7 +5,7 @@ mod Parts
 mod Tied
 mod Owned
 mod Kept
-mod Weights
+pub mod Weights
 mod Outs
 mod Begun
 mod Leaving

@@ -149,7 +149,8 @@ impl<W: World> FileCore<W> {
 
     /// The block size in bytes.
     pub fn block_size(&self) -> u64
-        ensures { result ≡ self.now.block_size }
+        ensures is { result ≡ self.now.block_size }
+        ensures most { result ≤ 16777216 }
     {
         self.shelf.block_size()
     }

@@ -108,6 +108,13 @@ impl<W: World> Model for Reading<W> {
 }
 
 impl<W: World> Reading<W> {
+    /// The number of the core that gave it out.
+    pub fn instance(&self) -> u64
+        ensures { result ≡ self.now.instance }
+    {
+        self.tag.instance
+    }
+
     pub fn discard(self) {
         let Reading { tag } = self;
         drop(tag);

@@ -1,5 +1,5 @@
 -- Parts that tile the pieces of a request.
-use Rattle.std.specs.Prelude.{◌≡◌, ◌==◌, ℕ, ◌<◌, ◌≤◌, List, length, map, filter, Some, slice_get, All, AllPairs}
+use Rattle.std.specs.Prelude.{◌≡◌, ◌==◌, ℕ, ◌+◌, ◌-◌, ◌*◌, ◌<◌, ◌≤◌, min, List, length, take, map, filter, Some, slice_get, slice_index_or, sum_by, All, AllPairs}
 use Rattle.std.specs.List.{flat_map}
 use Rattle.pfc_base.specs.Block.{slice_of, block_of, IsPartOf}
 use Rattle.pfc_base.specs.declared.block.Part.{Part}
@@ -9,9 +9,19 @@ use Rattle.pfc_base.specs.declared.block.Piece.{Piece}
 abbrev pub bytes_of_part : List ℕ → ℕ → Part → List ℕ
 bytes_of_part file k part = slice_of (block_of file k part.block) part.from part.len
 
--- each part lies inside a block of a file of this size, and whatever the file holds, the parts' bytes in order are the piece's
+abbrev pub part_len : Part → ℕ
+part_len part = part.len
+
+-- each part starts where those before it end, from a place of the file on
+abbrev pub AreInRow : ℕ → ℕ → List Part → Type 0
+AreInRow k off parts = (i : ℕ) (d : Part) → i < length parts → (slice_index_or parts i d).block * k + (slice_index_or parts i d).from ≡ off + sum_by part_len (take i parts)
+
+-- each part lies inside a block of a file of this size, they stand in a row from the piece's offset on and have its
+-- length, and whatever the file holds, the parts' bytes in order are the piece's
 pub record Tiles (size k : ℕ) (piece : Piece) (parts : List Part) : Type 0 where
   pub inside : All (IsPartOf size k) parts
+  pub row : AreInRow k piece.off parts
+  pub whole : sum_by part_len parts ≡ min piece.len (size - piece.off)
   pub bytes : (file : List ℕ) → length file ≡ size → flat_map (bytes_of_part file k) parts ≡ slice_of file piece.off piece.len
 
 -- the parts beside the place of one piece

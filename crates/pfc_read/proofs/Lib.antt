@@ -1,0 +1,5 @@
+mod Decided
+mod Asked
+mod Weights
+mod Hands
+mod Planned

@@ -1,0 +1,51 @@
+-- Parts that are still to be read, in another order.
+use Rattle.std.proofs.Common.{◌≡◌, ◌+◌, ◌<◌, ◌≤◌, ℕ, List, [], ◌∷◌, ◌++◌, length, map, refl, sym, ap, ◌∙◌, arith, length-append, Option, Some, None, IsTrue, Bool}
+use Rattle.std.specs.Prelude.{sum_by, slice_index}
+use Rattle.std.proofs.lemmas.List.Sums.{sum_by-append, sum_by_push}
+use Rattle.pfc_base.specs.declared.block.Piece.{Piece}
+use Rattle.pfc_log.specs.declared.entry.Fell.{Fell}
+use Rattle.pfc_log.specs.declared.entry.Served.{Served}
+use Rattle.pfc_world.specs.Files.{Files}
+use Rattle.pfc_core.specs.Marks.{Mark}
+use Rattle.pfc_read.specs.declared.segment.Source.TheVariants as source
+use Rattle.pfc_read.specs.declared.segment.Segment.{Segment}
+use Rattle.pfc_read.specs.declared.segment.Hand.{Hand}
+use Rattle.pfc_read.specs.declared.segment.Counts.{Counts}
+use Rattle.pfc_read.specs.declared.segment.Owed.{Owed}
+use Rattle.pfc_read.specs.declared.segment.Pending.{Pending}
+use Rattle.pfc_read.specs.Segments.{len_in, covers, len_from, in_pending}
+use Rattle.pfc_read.specs.Kept.{weight_in, is_run, is_look, AreCounted, IsSound}
+
+-- the same parts, in whichever place each is
+pub record SameParts {W : Type 0} (before after : List (Pending W)) (owed owes : Option (Owed W)) (h hand : Hand) : Type 0 where
+  pub each : (f : Segment → ℕ) → weight_in f after owes hand ≡ weight_in f before owed h
+
+pub counted-same : {W : Type 0} (k total : ℕ) (tickets rest : List Mark) (before after : List (Pending W)) (owed owes : Option (Owed W)) (h hand : Hand) (counts : Counts) (served : Served) (met : Option Fell) →
+    SameParts before after owed owes h hand → counts.failed + length rest + is_run hand ≤ counts.waits → counts.directs + length after + is_look hand ≤ counts.hits + counts.waits →
+    AreCounted k total tickets before owed h counts served met → AreCounted k total rest after owes hand counts served met
+counted-same k total tickets rest before after owed owes h hand counts served met same flights directs was =
+    let len = same.each len_in in
+    let memory = same.each (len_from source.Memory) in
+    let flight = same.each (len_from source.Flight) in
+    let origin = same.each (len_from source.Origin) in
+    record {
+      within = let w = was.within in omega (arith, w, len);
+      whole = λ none. let w = was.whole none in omega (arith, w, len);
+      hit = let w = was.hit in omega (arith, w, memory);
+      missed = let w = was.missed in omega (arith, w, flight);
+      bypassed = let w = was.bypassed in omega (arith, w, origin);
+      parts = was.parts;
+      flights = flights;
+      directs = directs;
+    }
+
+pub sound-same : {W : Type 0} (told : Bool) (files : Files) (reading : Mark) (piece : Piece) (bytes : List ℕ) (before after : List (Pending W)) (owed owes : Option (Owed W)) (h hand : Hand) (met : Option Fell) →
+    SameParts before after owed owes h hand → IsSound told files reading piece bytes before owed h met → IsSound told files reading piece bytes after owes hand met
+sound-same told files reading piece bytes before after owed owes h hand met same was = record {
+  short = was.short;
+  least = was.least;
+  most = was.most;
+  sized = was.sized;
+  long = was.long;
+  agrees = λ t none file at j low zero. was.agrees t none file at j low (sym (same.each (covers j)) ∙ zero);
+}

@@ -1,0 +1,48 @@
+use pfc_base::Part;
+use pfc_core::{Leave, Pin, Ticket};
+use pfc_log::{Fell, Served};
+use pfc_world::World;
+
+/// What is to be done next for a read.
+pub enum Action<W: World> {
+    /// Run the flight, land it or fail it, and supply how it ended.
+    Run(Ticket<W>),
+    /// Read the part of the leave straight from the origin, by `direct`.
+    Direct(Leave<W>),
+    /// See what has become of the pin's flight, by `look`.
+    Look(Pin<W>, Part),
+    /// There is nothing more to do: `finish`.
+    Finish,
+}
+
+/// How a flight of the read itself ended.
+#[derive(Clone, Copy, Debug, PartialEq, Eq)]
+pub enum Done {
+    Landed,
+    Failed(Fell),
+}
+
+/// What a look found.
+#[derive(Clone, Copy, Debug, PartialEq, Eq)]
+pub enum Saw {
+    /// The flight is still out. The next action is the same look.
+    Flying,
+    /// The block is in memory, and the part was copied.
+    Ready,
+    /// Another client's flight failed: a direct read follows.
+    Lost,
+    /// The client's own flight failed, so the read ends without data.
+    Own,
+    /// The core doesn't know the pin: a direct read follows.
+    Stray,
+}
+
+/// How a read ended.
+pub enum Answer {
+    /// With data, and where its bytes came from.
+    Bytes { bytes: Vec<u8>, served: Served },
+    /// The origin failed, before anything else was missing.
+    Fetch,
+    /// Memory was refused, before the origin failed.
+    Memory,
+}

@@ -1,0 +1,10 @@
+//! One read of one piece of a file: which parts it has, what is to be done for each, and the reply.
+#![tactic(auto)]
+
+mod action;
+mod draft;
+mod op;
+mod segment;
+
+pub use action::{Action, Answer, Done, Saw};
+pub use op::ReadOp;
