@@ -3,3 +3,7 @@ mod Asked
 mod Weights
 mod Hands
 mod Planned
+mod Written
+mod Filled
+mod Moves
+mod Ended

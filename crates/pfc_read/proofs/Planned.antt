@@ -182,7 +182,7 @@ sum_by-pins : {W : Type 0} (w : Mark → ℕ) (pendings : List (Pending W)) → 
 sum_by-pins w [] = refl
 sum_by-pins {W = W} w (p ∷ ps) = sum_by-cons w p.pin (map pin_in ps) ∙ ap (λ n. w p.pin + n) (sum_by-pins w ps) ∙ sym (sum_by-cons (λ (q : Pending W). w (pin_in q)) p ps)
 
-sum_by-map-reverse : {W : Type 0} (w : Mark → ℕ) (pendings : List (Pending W)) → sum_by w (map pin_in (reverse pendings)) ≡ sum_by w (map pin_in pendings)
+pub sum_by-map-reverse : {W : Type 0} (w : Mark → ℕ) (pendings : List (Pending W)) → sum_by w (map pin_in (reverse pendings)) ≡ sum_by w (map pin_in pendings)
 sum_by-map-reverse {W = W} w pendings = sum_by-pins w (reverse pendings) ∙ sum_by-reverse (λ (q : Pending W). w (pin_in q)) pendings ∙ sym (sum_by-pins w pendings)
 
 pub pins-again : {W : Type 0} (w : Mark → ℕ) (before after : List (Pending W)) (pins : List Mark) → after ≡ reverse before → pins ≡ [] → sum_by w (map pin_in after ++ pins) ≡ sum_by w (map pin_in before)

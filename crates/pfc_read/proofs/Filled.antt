@@ -1,0 +1,159 @@
+-- What becomes of the part that is given out.
+use Rattle.std.proofs.Common.{Vec, Global, ◌≡◌, ◌+◌, ◌*◌, ◌<◌, ◌≤◌, ℕ, Bool, List, [], ◌∷◌, ◌++◌, length, map, refl, sym, ap, ◌∙◌, arith, subst, Option, Some, None, length-append}
+use Rattle.std.specs.Prelude.{sum_by, All, IfSome, vec_capacity}
+use Rattle.std.proofs.lemmas.List.Elements.{All-push}
+use Rattle.std.proofs.lemmas.List.Sums.{sum_by_push}
+use Rattle.pfc_base.specs.Block.{IsPartOf, block_len_of}
+use Rattle.pfc_base.specs.declared.block.Piece.{Piece}
+use Rattle.pfc_log.specs.declared.entry.Fell.{Fell}
+use Rattle.pfc_log.specs.declared.entry.Fell.TheVariants.{Fault, Memory}
+use Rattle.pfc_log.specs.declared.entry.Served.{Served}
+use Rattle.pfc_world.specs.Files.{Files, Holds}
+use Rattle.pfc_core.specs.Marks.{Mark, TicketKind, PinKind}
+use Rattle.pfc_read.specs.declared.segment.Source.{Source}
+use Rattle.pfc_read.specs.declared.segment.Source.TheVariants as source
+use Rattle.pfc_read.specs.declared.segment.Segment.{Segment}
+use Rattle.pfc_read.specs.declared.segment.Hand.{Hand}
+use Rattle.pfc_read.specs.declared.segment.Hand.TheVariants as hand
+use Rattle.pfc_read.specs.declared.segment.Counts.{Counts}
+use Rattle.pfc_read.specs.declared.segment.Owed.{Owed}
+use Rattle.pfc_read.specs.declared.segment.Pending.{Pending}
+use Rattle.pfc_read.specs.declared.op.ReadOp.TheInside.{Inside}
+use Rattle.pfc_read.specs.OpView.{first_met}
+use Rattle.pfc_read.specs.Segments.{IsPlaced, len_in, len_by, len_from, covers, in_pending, in_owed, in_hand, with_part, owed_segment}
+use Rattle.pfc_read.specs.Steps.{IsTokenOf, IsPinFor}
+use Rattle.pfc_read.specs.Kept.{weight_in, is_run, is_look, served_sum, AreOwn, AreCounted, IsSound, IsStaged, IsKept, IsFit, IsOwed}
+use Rattle.pfc_read.proofs.Weights.{SameParts, counted-same}
+use Rattle.pfc_read.proofs.Written.{IsWritten, agrees-written, agrees-filled, slice-held}
+
+-- the part that is given out is this one
+pub record IsGiven (h : Hand) (s : Segment) : Type 0 where
+  pub each : (f : Segment → ℕ) → in_hand f h ≡ f s
+  pub run : is_run h ≡ 0
+
+sum-with : (served : Served) (src : Source) (n : ℕ) → served_sum (with_part served src n) ≡ served_sum served + n
+sum-with served source.Memory n = omega arith
+sum-with served source.Flight n = omega arith
+sum-with served source.Origin n = omega arith
+
+hit-with : (served : Served) (src : Source) (n : ℕ) → (with_part served src n).hit ≡ served.hit + len_by source.Memory src n
+hit-with served source.Memory n = refl
+hit-with served source.Flight n = omega arith
+hit-with served source.Origin n = omega arith
+
+missed-with : (served : Served) (src : Source) (n : ℕ) → (with_part served src n).missed ≡ served.missed + len_by source.Flight src n
+missed-with served source.Memory n = omega arith
+missed-with served source.Flight n = refl
+missed-with served source.Origin n = omega arith
+
+bypassed-with : (served : Served) (src : Source) (n : ℕ) → (with_part served src n).bypassed ≡ served.bypassed + len_by source.Origin src n
+bypassed-with served source.Memory n = omega arith
+bypassed-with served source.Flight n = omega arith
+bypassed-with served source.Origin n = refl
+
+pub counted-filled : {W : Type 0} (k total : ℕ) (tickets : List Mark) (pendings : List (Pending W)) (owed : Option (Owed W)) (h : Hand) (counts : Counts) (served now : Served) (met : Option Fell) (s : Segment) → IsGiven h s →
+    now ≡ with_part served s.source s.part.len → AreCounted k total tickets pendings owed h counts served met → AreCounted k total tickets pendings owed hand.Nothing counts now met
+counted-filled {W = W} k total tickets pendings owed h counts served now met s is e was =
+    let n : ℕ = s.part.len in
+    let sum : served_sum now ≡ served_sum served + n = ap served_sum e ∙ sum-with served s.source n in
+    let hit : now.hit ≡ served.hit + len_from source.Memory s = ap (λ (v : Served). v.hit) e ∙ hit-with served s.source n in
+    let missed : now.missed ≡ served.missed + len_from source.Flight s = ap (λ (v : Served). v.missed) e ∙ missed-with served s.source n in
+    let bypassed : now.bypassed ≡ served.bypassed + len_from source.Origin s = ap (λ (v : Served). v.bypassed) e ∙ bypassed-with served s.source n in
+    let len = is.each len_in in
+    let memory = is.each (len_from source.Memory) in
+    let flight = is.each (len_from source.Flight) in
+    let origin = is.each (len_from source.Origin) in
+    record {
+      within = let w = was.within in omega (arith, w, len, sum);
+      whole = λ none. let w = was.whole none in omega (arith, w, len, sum);
+      hit = let w = was.hit in omega (arith, w, memory, hit);
+      missed = let w = was.missed in omega (arith, w, flight, missed);
+      bypassed = let w = was.bypassed in omega (arith, w, origin, bypassed);
+      parts = was.parts;
+      flights = let w = was.flights in omega (arith, w);
+      directs = let w = was.directs in omega (arith, w);
+    }
+
+pub counted-lacking : {W : Type 0} (k total : ℕ) (tickets : List Mark) (pendings : List (Pending W)) (owed : Option (Owed W)) (h : Hand) (counts : Counts) (served : Served) (met now : Option Fell) →
+    (now ≡ None → ⊥) → AreCounted k total tickets pendings owed h counts served met → AreCounted k total tickets pendings owed hand.Nothing counts served now
+counted-lacking k total tickets pendings owed h counts served met now hurt was = record {
+  within = let w = was.within in omega (arith, w);
+  whole = λ none. absurd (hurt none);
+  hit = let w = was.hit in omega (arith, w);
+  missed = let w = was.missed in omega (arith, w);
+  bypassed = let w = was.bypassed in omega (arith, w);
+  parts = was.parts;
+  flights = let w = was.flights in omega (arith, w);
+  directs = let w = was.directs in omega (arith, w);
+}
+
+part-most : (size k off total : ℕ) (s : Segment) → IsPlaced size k off total s → s.part.len ≤ k
+part-most size k off total s is = let w = is.part_of.within in omega (arith, w)
+
+pub counted-owed : {W : Type 0} (size k off total : ℕ) (tickets : List Mark) (pendings : List (Pending W)) (owed : Owed W) (counts : Counts) (served : Served) (met : Option Fell) (s : Segment) → IsPlaced size k off total s →
+    owed.segment ≡ owed_segment s → AreCounted k total tickets pendings None (hand.Pin s) counts served met →
+    AreCounted k total tickets pendings (Some owed) hand.Nothing (record counts { directs = counts.directs + 1 }) served met
+counted-owed {W = W} size k off total tickets pendings owed counts served met s placed e was =
+    let n : ℕ = s.part.len in
+    let most = part-most size k off total s placed in
+    let len : owed.segment.part.len ≡ n = ap len_in e in
+    let memory : len_from source.Memory owed.segment ≡ 0 = ap (len_from source.Memory) e in
+    let flight : len_from source.Flight owed.segment ≡ 0 = ap (len_from source.Flight) e in
+    let origin : len_from source.Origin owed.segment ≡ n = ap (len_from source.Origin) e in
+    let more : k * (counts.directs + 1) ≡ k * counts.directs + k = omega arith in
+    record {
+      within = let w = was.within in omega (arith, w, len);
+      whole = λ none. let w = was.whole none in omega (arith, w, len);
+      hit = let w = was.hit in omega (arith, w, memory);
+      missed = let w = was.missed in omega (arith, w, flight);
+      bypassed = let w = was.bypassed in omega (arith, w, origin, more, most);
+      parts = was.parts;
+      flights = was.flights;
+      directs = let w = was.directs in omega (arith, w);
+    }
+
+pub sound-written : {W : Type 0} (told : Bool) (files : Files) (reading : Mark) (piece : Piece) (bytes new into : List ℕ) (before after : List (Pending W)) (owed owes : Option (Owed W)) (h : Hand) (met : Option Fell) (s : Segment) → IsGiven h s →
+    IsWritten bytes s.at into new → length into ≡ s.part.len → ((j : ℕ) → weight_in (covers j) after owes hand.Nothing ≡ weight_in (covers j) before owed h) →
+    IsSound told files reading piece bytes before owed h met → IsSound told files reading piece new after owes hand.Nothing met
+sound-written {W = W} told files reading piece bytes new into before after owed owes h met s is w long same was = record {
+  short = was.short;
+  least = was.least;
+  most = was.most;
+  sized = was.sized;
+  long = w.long ∙ was.long;
+  agrees = λ t none file at. agrees-written file piece.off bytes new into s (λ j. weight_in (covers j) before owed h) (λ j. weight_in (covers j) after owes hand.Nothing) w long
+      (λ j. let e = is.each (covers j) in let m = same j in omega (arith, e, m)) same (was.agrees t none file at);
+}
+
+pub sound-filled : {W : Type 0} (told : Bool) (files : Files) (reading : Mark) (piece : Piece) (total : ℕ) (bytes new into : List ℕ) (pendings : List (Pending W)) (owed : Option (Owed W)) (h : Hand) (met : Option Fell) (s : Segment) → IsGiven h s →
+    IsPlaced reading.size reading.block_size piece.off total s → IsWritten bytes s.at into new → length into ≡ s.part.len → Holds told files reading.path (s.part.block * reading.block_size + s.part.from) into →
+    IsSound told files reading piece bytes pendings owed h met → IsSound told files reading piece new pendings owed hand.Nothing met
+sound-filled {W = W} told files reading piece total bytes new into pendings owed h met s is placed w long holds was = record {
+  short = was.short;
+  least = was.least;
+  most = was.most;
+  sized = was.sized;
+  long = w.long ∙ was.long;
+  agrees = λ t none file at. agrees-filled file piece.off bytes new into s (λ j. weight_in (covers j) pendings owed h) (λ j. weight_in (covers j) pendings owed hand.Nothing) w long
+      (slice-held told files reading.path (piece.off + s.at) into file (subst (λ p. Holds told files reading.path p into) placed.place holds) t at)
+      (λ j. let e = is.each (covers j) in omega (arith, e)) (was.agrees t none file at);
+}
+
+pub sound-lacking : {W : Type 0} (told : Bool) (files : Files) (reading : Mark) (piece : Piece) (bytes new into : List ℕ) (at : ℕ) (before : List (Pending W)) (owed : Option (Owed W)) (h : Hand) (met now : Option Fell) →
+    IsWritten bytes at into new → (now ≡ None → ⊥) → IsSound told files reading piece bytes before owed h met → IsSound told files reading piece new before owed hand.Nothing now
+sound-lacking told files reading piece bytes new into at before owed h met now w hurt was = record {
+  short = was.short;
+  least = was.least;
+  most = was.most;
+  sized = was.sized;
+  long = w.long ∙ was.long;
+  agrees = λ t none. absurd (hurt none);
+}
+
+pub met-some : (met : Option Fell) (why : Fell) → first_met met why ≡ None → ⊥
+met-some None why e = cc
+met-some (Some first) why e = cc
+
+pub met-memory : (met : Option Fell) → first_met met Memory ≡ Some Fault → met ≡ Some Fault
+met-memory None e = let m : Some Memory ≡ Some Fault = e in cc
+met-memory (Some first) e = e

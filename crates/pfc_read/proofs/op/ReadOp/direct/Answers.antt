@@ -1,0 +1,44 @@
+use Rattle.std.proofs.Common.{◌≡◌, ◌+◌, ◌*◌, ◌-◌, ◌≤◌, ◌∙◌, ℕ, List, length, refl, sym, ap, arith, subst}
+use Rattle.pfc_base.specs.declared.block.Part.{Part}
+use Rattle.pfc_world.specs.Files.{Holds}
+use Rattle.pfc_core.specs.Marks.{Mark}
+use Rattle.pfc_read.specs.declared.segment.Hand.TheVariants as hand
+use Rattle.pfc_read.specs.OpView.{OpView, Given, ToFill}
+use Rattle.pfc_read.specs.Kept.{given_of, IsKept}
+use Rattle.pfc_read.proofs.Written.{IsWritten, part-long, written-part}
+use Rattle.pfc_read.proofs.Moves.{kept-came, kept-fault, placed-leave, same-fill}
+use Rattle.pfc_read.proofs.op.ReadOp.direct.Goals as goal
+
+pub invariant_of-self : goal.invariant_of-self
+invariant_of-self g c =
+    let s = c.self.inside in
+    let seg = c.in-Leave.segment in
+    let told = g.W.World.told in
+    let files = g.W.World.files in
+    let leave = c.args.leave in
+    let into = c.direct.new.into in
+    let within = (placed-leave told files s seg c.in-Leave.is c.self.invariant).within in
+    let long : length into ≡ seg.part.len = part-long seg.at seg.part.len c.deref_mut.result.now s.bytes.items into c.deref_mut.ensures.value within c.in-Ok.ensures.length in
+    let w = written-part s.bytes c.deref_mut.result.now seg.at seg.part.len into c.deref_mut.ensures.value within long in
+    let reading : s.reading ≡ c.args.self.now.reading = ap (λ (v : OpView). v.reading) c.self.view_is in
+    let given : ToFill seg.part ≡ ToFill leave.part = ap given_of (sym c.in-Leave.is) ∙ ap (λ (v : OpView). v.given) c.self.view_is ∙ c.requires.given in
+    let part : seg.part ≡ leave.part = same-fill seg.part leave.part given in
+    let path : leave.path ≡ s.reading.path = c.requires.leave.path_is ∙ ap (λ (m : Mark). m.path) (sym reading) in
+    let k : leave.block_size ≡ s.reading.block_size = c.requires.leave.block_size_is ∙ ap (λ (m : Mark). m.block_size) (sym reading) in
+    let holds : Holds told files s.reading.path (seg.part.block * s.reading.block_size + seg.part.from) into =
+    subst (λ p. Holds told files p (seg.part.block * s.reading.block_size + seg.part.from) into) path
+    (subst (λ b. Holds told files leave.path (seg.part.block * b + seg.part.from) into) k
+    (subst (λ (p : Part). Holds told files leave.path (p.block * leave.block_size + p.from) into) (sym part) c.in-Ok.ensures.ok)) in
+    kept-came told files s seg _ into c.plus-self-inside.result c.in-Leave.is long w holds c.plus-self-inside.ensures c.self.invariant
+
+pub invariant_of-self-in-Err : goal.invariant_of-self-in-Err
+invariant_of-self-in-Err g c =
+    let s = c.self.inside in
+    let seg = c.in-Leave.segment in
+    let told = g.W.World.told in
+    let files = g.W.World.files in
+    let into = c.direct.new.into in
+    let within = (placed-leave told files s seg c.in-Leave.is c.self.invariant).within in
+    let long : length into ≡ seg.part.len = part-long seg.at seg.part.len c.deref_mut.result.now s.bytes.items into c.deref_mut.ensures.value within c.in-Err.ensures.length in
+    let w = written-part s.bytes c.deref_mut.result.now seg.at seg.part.len into c.deref_mut.ensures.value within long in
+    kept-fault told files s seg _ into c.first-self-inside.result c.in-Leave.is w c.first-self-inside.ensures c.self.invariant
