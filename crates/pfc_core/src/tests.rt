@@ -251,6 +251,28 @@ fn share(
     Ok(((first, part), second, landed))
 }
 
+/// A client reads the part that it waits for, and its read ends.
+fn read(alloc: Global, core: &mut Core, waiting: Waiting, n: u32) -> Result<[u8; 2], Fail>
+    requires block { waiting.1.block ≡ waiting.0.block }
+    requires part { IsPartOf waiting.0.size waiting.0.block_size waiting.1 }
+{
+    let (pin, part) = waiting;
+    let (pin, bytes) = ready(core, pin, part)?;
+    let mut pins = Vec::new(alloc);
+    pins.push(pin)?;
+    serve(
+        core,
+        &mut pins,
+        n,
+        Served {
+            hit: 0,
+            missed: 2,
+            bypassed: 0,
+        },
+    )?;
+    Ok(bytes)
+}
+
 /// Both clients leave, and the core ends.
 fn leave(
     alloc: Global,
@@ -270,24 +292,15 @@ fn two_clients_share_one_flight(rt: HostRuntime) -> Result<(), Fail> {
     let stays = (core.attach(1)?, core.attach(2)?);
     let (first, second, landed) = share(alloc, &mut core, &mut line)?;
     assert!(rt; landed);
-    let mut pins = Vec::new(alloc);
-    for (n, (pin, part)) in [(1, first), (2, second)] {
-        let (pin, bytes) = ready(&mut core, pin, part)?;
-        // Byte j of the file is j modulo 251, and the part begins at byte 7.
-        assert_eq!(rt; bytes.as_slice(), [7, 8].as_slice());
-        pins.push(pin)?;
-        serve(
-            &mut core,
-            &mut pins,
-            n,
-            Served {
-                hit: 0,
-                missed: 2,
-                bypassed: 0,
-            },
-        )?;
-        assert!(rt; pins.is_empty());
-    }
+    // Byte j of the file is j modulo 251, and the part begins at byte 7.
+    assert_eq!(rt;
+        read(alloc, &mut core, first, 1)?.as_slice(),
+        [7, 8].as_slice()
+    );
+    assert_eq!(rt;
+        read(alloc, &mut core, second, 2)?.as_slice(),
+        [7, 8].as_slice()
+    );
     let log = leave(alloc, core, stays)?;
     assert_eq!(rt;
         log.as_slice(),
