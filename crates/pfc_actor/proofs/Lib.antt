@@ -5,3 +5,5 @@ pub mod Answering
 pub mod Entering
 pub mod Cores
 pub mod Holding
+pub mod Going
+pub mod Ending

@@ -140,7 +140,7 @@ AtWork b (st.Full op job) = GoesOn b op Nothing × (job.instance ≡ op.reading.
 AtWork b (st.Running op ticket) = GoesOn b op ToRun × IsTokenOf op.reading TicketKind ticket
 AtWork b (st.Directing op leave) = GoesOn b op (ToFill leave.part) × IsLeaveOf op.reading leave
 AtWork b (st.Looking op pin part) = GoesOn b op (ToLook part) × IsPinFor op.reading part pin
-AtWork b (st.Ending op) = GoesOn b op ToEnd
+AtWork b (st.Ending op) = GoesOn b op ToEnd × (op.leaves ≡ 0)
 
 -- the next step of the client is one on this core
 abbrev pub Here : BookView → StageView → CoreView → Type 0

@@ -225,6 +225,9 @@ pub(crate) fn drop_full<W: World, O: Origin<W>>(
 {
     match core.drop_job(job, DropCause::Full { capacity: 0 }) {
         Ok(()) => Stage::Reading(op),
-        Err(Strayed { token: _, why: _ }) => Stage::Reading(op),
+        Err(Strayed { token, why: _ }) => {
+            drop(token);
+            Stage::Reading(op)
+        }
     }
 }
