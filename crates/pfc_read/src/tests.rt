@@ -51,12 +51,200 @@ fn fly(
     match line.run(alloc, ticket) {
         Flight::Landed(ticket, twin) => match core.land(ticket, twin) {
             Ok(_job) => Done::Landed,
-            Err(Strayed { token: _, why: _ }) => panic!(rt; "a strayed ticket"),
+            Err(Strayed { token, why: _ }) => {
+                token.0.discard();
+                panic!(rt; "a strayed ticket")
+            }
         },
         Flight::Fault(ticket) => match core.fail(ticket, Fell::Fault) {
             Ok(()) => Done::Failed(Fell::Fault),
-            Err(Strayed { token: _, why: _ }) => panic!(rt; "a strayed ticket"),
+            Err(Strayed { token, why: _ }) => {
+                token.discard();
+                panic!(rt; "a strayed ticket")
+            }
         },
-        Flight::Memory(_ticket) => panic!(rt; "no memory"),
+        Flight::Memory(ticket) => {
+            ticket.discard();
+            panic!(rt; "no memory")
+        }
     }
+}
+
+/// Does the next action of a read, and says whether it was the last.
+fn step(rt: &impl Abort, alloc: Global, core: &mut Core, line: &mut RowLine, op: &mut Op) -> bool
+    requires { op.old.given ≡ Nothing }
+    ensures { MatchBool result (op.new.given ≡ ToEnd) (op.new.given ≡ Nothing) }
+{
+    match op.next() {
+        Action::Run(ticket) => {
+            op.supply(fly(rt, alloc, core, line, ticket));
+            false
+        }
+        Action::Direct(leave) => {
+            let _ = op.direct(line, leave);
+            false
+        }
+        Action::Look(pin, part) => {
+            let _ = op.look(core, pin, part);
+            false
+        }
+        Action::Finish => true,
+    }
+}
+
+/// Ends a read, of which no flight of another client is still out.
+fn end(rt: &impl Abort, alloc: Global, core: &mut Core, line: &mut RowLine, mut op: Op) -> Answer
+    requires { op.given ≡ Nothing }
+{
+    for _ in 0..16 {
+        if step(rt, alloc, core, line, &mut op) {
+            return op.finish(core);
+        }
+    }
+    panic!(rt; "the read goes on")
+}
+
+/// A read of client 1 on a fresh core, with the calls of its line that fail.
+struct Case {
+    shows: &'static str,
+    fails: &'static [u64],
+    piece: Piece,
+    /// The bytes, or that the origin failed.
+    bytes: Option<&'static [u8]>,
+    served: (u64, u64, u64),
+}
+
+/// Call 0 asks for the size.
+const CASES: &[Case] = &[
+    Case {
+        shows: "a read over two blocks",
+        fails: &[],
+        piece: Piece { off: 4095, len: 2 },
+        bytes: Some(&[0x4f, 0x50]),
+        served: (0, 2, 0),
+    },
+    Case {
+        shows: "a read is cut at the file's end",
+        fails: &[],
+        piece: Piece {
+            off: 8190,
+            len: 100,
+        },
+        bytes: Some(&[0x9e, 0x9f, 0xa0]),
+        served: (0, 3, 0),
+    },
+    Case {
+        shows: "a read past the end has no bytes",
+        fails: &[],
+        piece: Piece { off: 8193, len: 1 },
+        bytes: Some(&[]),
+        served: (0, 0, 0),
+    },
+    Case {
+        shows: "the second flight fails",
+        fails: &[2],
+        piece: Piece { off: 4095, len: 2 },
+        bytes: None,
+        served: (0, 0, 0),
+    },
+];
+
+/// Whether the answer is what the case wants.
+fn is_wanted(case: &Case, answer: &Answer) -> bool {
+    match answer {
+        Answer::Bytes { bytes, served } => {
+            let (hit, missed, bypassed) = case.served;
+            let wanted = Served {
+                hit,
+                missed,
+                bypassed,
+            };
+            case.bytes == Some(bytes.as_slice()) && *served == wanted
+        }
+        Answer::Fetch => case.bytes.is_none(),
+        Answer::Memory => false,
+    }
+}
+
+#[test]
+fn one_client_reads(rt: HostRuntime) -> Result<(), Fail> {
+    let alloc = rt.alloc();
+    for case in CASES {
+        let mut line = line_of(alloc, case.fails)?;
+        let mut core = core_of(alloc, &mut line)?;
+        let op = ReadOp::plan(alloc, &mut core, 1, case.piece)?;
+        let answer = end(&rt, alloc, &mut core, &mut line, op);
+        assert!(rt; is_wanted(case, &answer), "{}", case.shows);
+    }
+    Ok(())
+}
+
+/// What clients 1 and 2 get who ask for byte 7 one after the other, before the flight has ended; and the log.
+fn share(rt: &impl Abort, alloc: Global, fails: &[u64]) -> Result<(Answer, Answer, Vec<u8>), Fail> {
+    let mut line = line_of(alloc, fails)?;
+    let mut core = core_of(alloc, &mut line)?;
+    let piece = Piece { off: 7, len: 1 };
+    let first = ReadOp::plan(alloc, &mut core, 1, piece)?;
+    let second = match ReadOp::plan(alloc, &mut core, 2, piece) {
+        Ok(op) => op,
+        Err(_) => panic!(rt; "no memory"),
+    };
+    let first = end(rt, alloc, &mut core, &mut line, first);
+    let second = end(rt, alloc, &mut core, &mut line, second);
+    let mut log = Vec::new(alloc);
+    push_log(alloc, &mut log, core.known().path(), core.log())?;
+    Ok((first, second, log))
+}
+
+#[test]
+fn two_clients_share_a_flight(rt: HostRuntime) -> Result<(), Fail> {
+    let (first, second, log) = share(&rt, rt.alloc(), &[])?;
+    for answer in [&first, &second] {
+        let Answer::Bytes { bytes, served } = answer else {
+            return Err(Fail::new("no data"));
+        };
+        assert_eq!(rt; bytes.as_slice(), [7].as_slice());
+        assert_eq!(rt; served.missed, 1);
+    }
+    assert_eq!(rt;
+        log.as_slice(),
+        b"log /a stored -\nbegin 0 0 1\njoin 0 0 2\nlanded 0\nserved 1 0 1 0\nserved 2 0 1 0\n".as_slice()
+    );
+    Ok(())
+}
+
+#[test]
+fn the_second_client_of_a_failed_flight_reads_from_the_origin(rt: HostRuntime) -> Result<(), Fail> {
+    let (first, second, log) = share(&rt, rt.alloc(), &[1])?;
+    let Answer::Fetch = first else {
+        return Err(Fail::new("the first client's flight failed"));
+    };
+    let Answer::Bytes { bytes, served } = second else {
+        return Err(Fail::new("no data"));
+    };
+    assert_eq!(rt; bytes.as_slice(), [7].as_slice());
+    assert_eq!(rt; served.bypassed, 1);
+    assert_eq!(rt;
+        log.as_slice(),
+        b"log /a stored -\nbegin 0 0 1\njoin 0 0 2\nfailed 0 fault\ndirect 0 2 lost 0\nserved 2 0 0 1\n".as_slice()
+    );
+    Ok(())
+}
+
+#[test]
+fn a_block_in_memory_is_hit(rt: HostRuntime) -> Result<(), Fail> {
+    let alloc = rt.alloc();
+    let mut line = line_of(alloc, &[])?;
+    let mut core = core_of(alloc, &mut line)?;
+    let piece = Piece { off: 4096, len: 2 };
+    for wanted in [0u64, 2] {
+        let op = ReadOp::plan(alloc, &mut core, 1, piece)?;
+        let answer = end(&rt, alloc, &mut core, &mut line, op);
+        let Answer::Bytes { bytes, served } = answer else {
+            return Err(Fail::new("no data"));
+        };
+        assert_eq!(rt; bytes.as_slice(), [0x50, 0x51].as_slice());
+        assert_eq!(rt; served.hit, wanted);
+    }
+    Ok(())
 }
