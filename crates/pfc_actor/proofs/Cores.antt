@@ -18,14 +18,14 @@ use Rattle.pfc_actor.specs.StageView.{StageView, Rest, Closing}
 use Rattle.pfc_actor.specs.StageView as st
 use Rattle.pfc_actor.specs.Stages.{shares, no_shares, stage_weight, owed, asking, failing}
 use Rattle.pfc_actor.specs.Steps.{IsTallied, IsWithin, Shrinks, Own, Step}
-use Rattle.pfc_actor.proofs.Tallied.{Answers, made, told}
+use Rattle.pfc_actor.proofs.Tallied.{Answers, made, quiet, told}
 use Rattle.pfc_actor.proofs.Steps.{shrinks_same}
 use Rattle.pfc_actor.proofs.Entering.{Gained, gained_one, HasRoom, no_room, step_on}
 
 pub still_home : (c c2 : CoreView) (x : Entry) (out : List Mark) → c2 ≡ entered c x out → c2 ≡ record c { entries = c2.entries; out = c2.out }
 still_home c c2 x out same = subst (λ (v : CoreView). v ≡ record c { entries = v.entries; out = v.out }) (sym same) refl
 
-less : (k a b : ℕ) → a ≤ b → k * a ≤ k * b
+pub less : (k a b : ℕ) → a ≤ b → k * a ≤ k * b
 less k a b le = grind (arith, le)
 
 subst_faults : (n a : ℕ) → RoseBy 0 n a → RoseBy 0 (n + 0) a
@@ -81,5 +81,19 @@ closed_step b b2 l c c2 number stay next mine detaches weighs num asked replies 
         (λ t old. told b b2 l l (Closing number) st.Closed t (together t g) (Ok (q.Close number)) r.Closed asked replies next
             (record { opened = omega arith; served = omega arith; read = omega arith; })
             (made l l (Closing number) st.Closed t (together t g) 0 0 (omega arith) (omega arith) (omega arith)) (subst_faults t.faults l.faults old.faults) (omega arith) old)
+        (no_room c.block_size g refl refl refl)
+        (λ i other. shrinks_same no_shares)
+
+-- the file is closed without a reply
+pub shut_step : (b b2 : BookView) (l : LineView) (c c2 : CoreView) (stay : Mark) → stay.client ≡ b.number → Detaches c stay c2 → ((w : Mark → ℕ) → open_weight w b2.stays + w stay ≡ open_weight w b.stays) →
+    b2.number ≡ b.number → b2.asked ≡ b.asked → b2.replies ≡ b.replies → Step b l Rest c b2 l Rest c2
+shut_step b b2 l c c2 stay mine detaches weighs num asked replies =
+    let g : Tally = gain b.number (owners c.entries) (e.Closed b.number) in
+    let enters : c2 ≡ entered c (e.Closed b.number) c2.out = detaches.enters ∙ ap (λ (m : ℕ). entered c (e.Closed m) c2.out) mine in
+    step_on b b2 l l Rest Rest c c2 g num refl asked (still_home c c2 (e.Closed b.number) c2.out enters)
+        (λ w. let h = weighs w in let m = detaches.loses w in omega (arith, h, m))
+        (gained_one b.number c.entries c2.entries (e.Closed b.number) (ap (λ (v : CoreView). v.entries) enters) refl)
+        (λ t old. quiet b b2 l l Rest Rest t (together t g) asked replies (omega arith) (omega arith) (omega arith) (made l l Rest Rest t (together t g) 0 0 (omega arith) (omega arith) (omega arith))
+            (subst_faults t.faults l.faults old.faults) (omega arith) old)
         (no_room c.block_size g refl refl refl)
         (λ i other. shrinks_same no_shares)

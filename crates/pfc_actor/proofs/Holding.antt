@@ -1,7 +1,8 @@
 -- What a client holds its core knows.
-use Rattle.std.proofs.Common.{◌≡◌, ℕ, zero, suc, ◌+◌, ◌≤◌, ◌<◌, List, [], ◌∷◌, refl, sym, ap, ◌∙◌, arith, Bool, true, false}
+use Rattle.std.proofs.Common.{◌≡◌, ℕ, zero, suc, ◌+◌, ◌≤◌, ◌<◌, List, [], ◌∷◌, refl, sym, ap, ◌∙◌, arith, Bool, true, false, ◌⊎◌, inl, inr}
 use Rattle.std.specs.Prelude.{◌==◌, ◌&&◌, if◌then◌else◌, sum_by, Option, Some, None}
 use Rattle.std.specs.Cmp.Lexicographic.{pointwise}
+use Rattle.std.proofs.lemmas.Bool.{eqb-true}
 use Rattle.std.proofs.lemmas.List.Sums.{sum_by-cons}
 use Rattle.pfc_log.proofs.Places.{eq_self}
 use Rattle.pfc_client.specs.Session.{place_at}
@@ -10,9 +11,12 @@ use Rattle.pfc_core.specs.Marks.{Mark, same, sees, listed, kind_code}
 use Rattle.pfc_core.specs.View.{CoreView}
 use Rattle.pfc_core.proofs.Weights.{same_self, same_instance, same_path, same_size, same_block_size}
 use Rattle.pfc_actor.specs.Books.{BookView, open_weight, weight_in}
+use Rattle.pfc_read.specs.OpView.{OpView}
 use Rattle.pfc_actor.specs.StageView.{StageView}
-use Rattle.pfc_actor.specs.Stages.{weight}
+use Rattle.pfc_actor.specs.StageView as st
+use Rattle.pfc_actor.specs.Stages.{weight, shares, no_shares, op_shares}
 use Rattle.pfc_actor.specs.Steps.{Knows}
+use Rattle.pfc_actor.specs.Clients.{Holds}
 
 pub sees_self : (m : Mark) → sees m m ≡ 1
 sees_self m = ap (λ (q : Bool). if q then 1 else 0) (same_self m)
@@ -70,3 +74,25 @@ own_file c m own =
 -- what is held of a core is of its file
 pub of_file : (b : BookView) (st : StageView) (c : CoreView) (m : Mark) → Knows b st c → m.instance ≡ c.instance → sees m m ≤ weight (sees m) b st → IsOfFile c m
 of_file b st c m knows here held = let known = knows.known m here in let one = sees_self m in own_file c m (listed_own c m c.out knows.own (omega (arith, known, one, held)))
+
+-- who has a share in a core holds a token of it
+op_held : (i : ℕ) (b : BookView) (st : StageView) (op : OpView) → shares i st ≡ op_shares i op → ((w : Mark → ℕ) → w op.reading ≤ weight w b st) → (shares i st ≡ no_shares) ⊎ Holds i b st
+op_held i b st op is heavy = by_test (op.reading.instance == i)
+    (λ y. inr (record { mark = op.reading; instance_is = eqb-true op.reading.instance i y; held = heavy (sees op.reading); }))
+    (λ n. inl (is ∙ ap (λ (q : Bool). if q then record { hits = op.hits; waits = op.waits; directs = op.directs } else no_shares) n))
+
+pub shares_held : (i : ℕ) (b : BookView) (st : StageView) → (shares i st ≡ no_shares) ⊎ Holds i b st
+shares_held i b st.Rest = inl refl
+shares_held i b (st.Wanted wanted) = inl refl
+shares_held i b (st.Making wanted) = inl refl
+shares_held i b (st.Joining wanted) = inl refl
+shares_held i b (st.Planning number piece) = inl refl
+shares_held i b (st.Closing number) = inl refl
+shares_held i b st.Closed = inl refl
+shares_held i b (st.Reading op) = op_held i b (st.Reading op) op refl (λ w. omega arith)
+shares_held i b (st.Landed op job) = op_held i b (st.Landed op job) op refl (λ w. omega arith)
+shares_held i b (st.Full op job) = op_held i b (st.Full op job) op refl (λ w. omega arith)
+shares_held i b (st.Running op ticket) = op_held i b (st.Running op ticket) op refl (λ w. omega arith)
+shares_held i b (st.Directing op leave) = op_held i b (st.Directing op leave) op refl (λ w. omega arith)
+shares_held i b (st.Looking op pin part) = op_held i b (st.Looking op pin part) op refl (λ w. omega arith)
+shares_held i b (st.Ending op) = op_held i b (st.Ending op) op refl (λ w. omega arith)

@@ -7,3 +7,4 @@ pub mod Cores
 pub mod Holding
 pub mod Going
 pub mod Ending
+pub mod Asking

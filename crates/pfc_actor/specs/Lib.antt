@@ -4,3 +4,4 @@ pub mod StageView
 pub mod Seen
 pub mod Stages
 pub mod Steps
+pub mod Clients
