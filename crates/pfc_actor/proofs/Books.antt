@@ -93,6 +93,19 @@ closed told files number asked replies after kept now shut capacity capacity2 pl
           | inr e ↦ book.stays i m (sym e ∙ sym (ap (λ l. place_at l i) took) ∙ at)
         ]))
 
+-- what was open at a place goes, with no reply
+pub shut : (told : Bool) (files : Files) (number : ℕ) (asked : List (List ℕ)) (replies : List Reply) (kept now : List (Option Mark)) (was : Bool) (capacity place : ℕ) →
+    IsBook told files number asked replies kept was capacity → now ≡ slice_set kept place None → IsBook told files number asked replies now true capacity
+shut told files number asked replies kept now was capacity place book took = record {
+  answered = record { end = book.answered.end; walk = book.answered.walk; same = λ going. absurd (cc); };
+  few = book.few;
+  room = book.room;
+  stays = λ i m at. elim (place_put kept place i None) [
+    | inl e ↦ cc
+    | inr e ↦ book.stays i m (sym e ∙ sym (ap (λ l. place_at l i) took) ∙ at)
+  ];
+}
+
 -- where nothing is open nothing weighs
 pub none_left : (kept : List (Option Mark)) → ((j : ℕ) → j < length kept → place_at kept j ≡ None) → (w : Mark → ℕ) → open_weight w kept ≡ 0
 none_left [] none w = refl

@@ -1,1 +1,10 @@
 pub mod Books
+pub mod Tallied
+pub mod Steps
+pub mod Answering
+pub mod Entering
+pub mod Cores
+pub mod Holding
+pub mod Going
+pub mod Ending
+pub mod Asking

@@ -74,6 +74,13 @@ impl<W: World> Book<W> {
         Ok(())
     }
 
+    /// Hands out what the type keeps: there are no more replies than lines.
+    pub fn keeps(&self)
+        ensures { length self.now.replies ≤ length self.now.asked }
+    {
+        let _replies = self.replies.len();
+    }
+
     /// The number of the client.
     pub fn number(&self) -> u32
         ensures { result ≡ self.now.number }
@@ -127,8 +134,10 @@ impl<W: World> Book<W> {
         requires size { size ≡ stay.size }
         requires right { HasSize W.told W.files stay.path stay.size }
         requires mine { IsStay self.old.number stay }
-        ensures { self.new ≡ record self.old { replies = self.old.replies ++ r.Size size ∷ []; stays = slice_set self.old.stays number (Some stay) } }
+        ensures weighs { (w : Mark → ℕ) → open_weight w self.new.stays ≡ open_weight w self.old.stays + w stay }
+        ensures opened { self.new ≡ record self.old { replies = self.old.replies ++ r.Size size ∷ []; stays = slice_set self.old.stays number (Some stay) } }
     {
+        self.stays.sixteen();
         match self.stays.put(number, stay) {
             Ok(()) => self.replies.push_reserved(Reply::Size(size)),
             Err(_) => unreachable!(),
@@ -142,6 +151,7 @@ impl<W: World> Book<W> {
         requires is { IsSome (place_at self.old.stays number) }
         ensures stay { result ≡ place_at self.old.stays number }
         ensures mine { IfSome result (λ stay. IsStay self.old.number stay) }
+        ensures weighs { IfSome result (λ stay. (w : Mark → ℕ) → open_weight w self.new.stays + w stay ≡ open_weight w self.old.stays) }
         ensures closed { self.new ≡ record self.old { replies = self.old.replies ++ r.Closed ∷ []; stays = slice_set self.old.stays number None } }
     {
         self.replies.push_reserved(Reply::Closed);
@@ -150,13 +160,14 @@ impl<W: World> Book<W> {
 
     /// Whether each request has its reply.
     pub fn is_answered(&self) -> bool
-        ensures { IsTrue result ↔ (length self.now.replies ≡ length self.now.asked) }
+        ensures exact { IsTrue result ↔ (length self.now.replies ≡ length self.now.asked) }
+        ensures walk { IsTrue result → (end : Table) × Walk W.told W.files nothing_open self.now.asked self.now.replies end }
     {
         self.replies.len() == self.asked.len()
     }
 
     /// The lowest descriptor at which something is open.
-    fn first_open(&self) -> Option<u64>
+    pub fn first_open(&self) -> Option<u64>
         ensures some { IfSome result (λ n. IsSome (place_at self.now.stays n)) }
         ensures none { IfNone result ((w : Mark → ℕ) → open_weight w self.now.stays ≡ 0) }
     {
@@ -169,26 +180,28 @@ impl<W: World> Book<W> {
         None
     }
 
-    /// Gives back the first stay that is left, with no reply. The client isn't asked any more.
-    pub fn shut(&mut self) -> Option<Stay<W>>
-        requires { length self.old.replies ≡ length self.old.asked }
-        ensures mine { IfSome result (λ stay. IsStay self.old.number stay) }
-        ensures some { IfSome result (λ stay. (w : Mark → ℕ) → open_weight w self.new.stays + w stay ≡ open_weight w self.old.stays) }
-        ensures none { IfNone result ((w : Mark → ℕ) → open_weight w self.new.stays ≡ 0) }
-        ensures rest { self.new ≡ record self.old { stays = self.new.stays; shut = true } }
+    /// Whether files were closed without its asking.
+    pub fn is_shut(&self) -> bool
+        ensures { result ≡ self.now.shut }
     {
-        self.shut = true;
-        match self.first_open() {
-            None => None,
-            Some(number) => self.stays.take(number),
-        }
+        self.shut
     }
 
-    /// The replies, which are permitted.
+    /// Gives back what is open at a descriptor, with no reply. The client isn't asked any more.
+    pub fn shut(&mut self, number: u64) -> Option<Stay<W>>
+        requires { length self.old.replies ≡ length self.old.asked }
+        ensures stay { result ≡ place_at self.old.stays number }
+        ensures mine { IfSome result (λ stay. IsStay self.old.number stay) }
+        ensures weighs { IfSome result (λ stay. (w : Mark → ℕ) → open_weight w self.new.stays + w stay ≡ open_weight w self.old.stays) }
+        ensures rest { self.new ≡ record self.old { stays = slice_set self.old.stays number None; shut = true } }
+    {
+        self.shut = true;
+        self.stays.take(number)
+    }
+
+    /// Hands over the replies.
     pub fn end(self) -> Vec<Reply>
-        requires { length self.replies ≡ length self.asked }
-        ensures replies { result.items ≡ self.replies }
-        ensures permitted { (end : Table) × Walk W.told W.files nothing_open self.asked self.replies end }
+        ensures { result.items ≡ self.replies }
     {
         let Book { replies, .. } = self;
         replies

@@ -2,5 +2,12 @@
 #![tactic(auto)]
 
 mod book;
+mod client;
+mod opening;
+mod reading;
+mod stage;
+mod taking;
 
 pub use book::Book;
+pub use client::{Client, Place};
+pub use stage::{Stage, Wanted};

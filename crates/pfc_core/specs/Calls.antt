@@ -80,13 +80,15 @@ Decides old n i (Resident pin) new = IsTrue (is_here_at pin.flight (place i old.
 Decides old n i (Joined pin) new = IsTrue (is_flying_at pin.flight (place i old.entries)) × PinsOn old n i pin (Join pin.flight i n) new
 Decides old n i (Fetch ticket pin) new = Fetches old n i ticket pin new
 
--- the ticket's job in its place, with an entry
+-- the ticket's job in its place, with an entry; the client of the ticket began the flight
 pub record Lands (old : CoreView) (ticket job : Mark) (new : CoreView) : Type 0 where
+  pub owner_is : owner ticket.number old.entries ≡ Some ticket.client
   pub job_is : job ≡ record ticket { kind = JobKind }
   pub swaps : Swaps old.out ticket job new.out
   pub enters : new ≡ entered old (Landed ticket.number) new.out
 
 pub record Fails (old : CoreView) (ticket : Mark) (why : Fell) (new : CoreView) : Type 0 where
+  pub owner_is : owner ticket.number old.entries ≡ Some ticket.client
   pub loses : Loses old.out ticket new.out
   pub enters : new ≡ entered old (Failed ticket.number why) new.out
 

@@ -16,3 +16,6 @@ pub use leave::Leave;
 pub use line::{Flight, Line};
 pub use look::Look;
 pub use token::{Decision, Job, Pin, Reading, Stay, Strayed, Ticket, Twin};
+
+#[cfg(test)]
+mod tests;

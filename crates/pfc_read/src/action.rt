@@ -38,6 +38,7 @@ pub enum Saw {
 }
 
 /// How a read ended.
+#[derive(Debug, Drop)]
 pub enum Answer {
     /// With data, and where its bytes came from.
     Bytes { bytes: Vec<u8>, served: Served },

@@ -5,6 +5,8 @@ mod action;
 mod draft;
 mod op;
 mod segment;
+#[cfg(test)]
+mod tests;
 
 pub use action::{Action, Answer, Done, Saw};
 pub use op::ReadOp;

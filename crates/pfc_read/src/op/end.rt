@@ -1,5 +1,5 @@
 // The end of a read.
-ghost use Rattle.std.specs.Prelude.{◌≡◌, ◌+◌, ◌≤◌, ◌<◌, ℕ, [], ◌++◌, length, map, reverse, vec_capacity, OnOk, All, Some};
+ghost use Rattle.std.specs.Prelude.{◌≡◌, ◌+◌, ◌≤◌, ◌<◌, ℕ, [], ◌++◌, length, map, reverse, vec_capacity, OnOk, All, Some, IsTrue, ◌↔◌};
 ghost use Rattle.pfc_log.specs.declared.entry.Fell.TheVariants as fell;
 ghost use Rattle.pfc_world.specs.Files.{HasSize};
 ghost use Rattle.pfc_core.specs.Marks.{TicketKind, PinKind};
@@ -11,7 +11,7 @@ ghost use Rattle.pfc_read.specs.Ends.{Answers, EndsRead, GivesBack, op_len, serv
 use super::ReadOp;
 use crate::action::Answer;
 use crate::segment::Pending;
-use pfc_core::{FileCore, Pin, Reading, Strayed};
+use pfc_core::{FileCore, Pin, Reading, Strayed, Ticket};
 use pfc_log::{Fell, Served};
 use pfc_world::World;
 
@@ -25,6 +25,14 @@ fn gather<W: World>(mut pins: Vec<Pin<W>>, mut pendings: Vec<Pending<W>>) -> Vec
         pins.push_reserved(pin);
     }
     pins
+}
+
+/// Ends tickets that no core takes.
+fn discard_all<W: World>(mut tickets: Vec<Ticket<W>>) {
+    while let Some(ticket) = tickets.pop() {
+        ticket.discard();
+    }
+    tickets.destroy_empty();
 }
 
 /// Ends a reading with its entry, and gives the pins back.
@@ -56,6 +64,35 @@ impl<W: World> ReadOp<W> {
         ensures fetch { self.now.met ≡ Some fell.Fault → 0 < op_len self.now }
     {
         let _len = self.pins.len();
+    }
+
+    /// Whether it has a ticket that wasn't given yet.
+    pub fn has_ticket(&self) -> bool
+        ensures { IsTrue result ↔ (0 < length self.now.tickets) }
+    {
+        !self.tickets.is_empty()
+    }
+
+    /// Ends a read that no core takes.
+    pub fn discard(self) {
+        let ReadOp {
+            piece: _,
+            reading,
+            bytes: _,
+            tickets,
+            pendings: _,
+            pins: _,
+            owed,
+            hand: _,
+            counts: _,
+            served: _,
+            met: _,
+        } = self;
+        discard_all(tickets);
+        if let Some(owed) = owed {
+            owed.discard();
+        }
+        reading.discard();
     }
 
     /// Ends the read: its reading and its pins go back to the core, with an entry of what it brought.

@@ -1,4 +1,5 @@
 use Rattle.std.proofs.Common.{refl, ◌≡◌, sym, ap, subst, rules, arith, false, ℕ, Some, None}
+use Rattle.pfc_log.specs.Owners.{owner}
 use Rattle.pfc_core.specs.declared.held.Held.{Held}
 use Rattle.pfc_core.specs.declared.slot.Slot.{Slot}
 use Rattle.pfc_core.specs.Marks.{TicketKind}
@@ -46,6 +47,7 @@ returns-clause-ok g c = let s = c.self.inside in let x = c.in-Some.slot in let p
     let got : (slot_of p.block s.shelf.slots ≡ Some x) × (x.landed ≡ false) × (flight_of x ≡ p) = search rules in
     let moved : Changes x.block (Some x) None s.shelf c.remove.new.self = c.remove.ensures in
     rw (← c.self.view_is, ← c.ticket.view_is, moved.path, moved.size, moved.block_size) (record {
+      owner_is = subst (λ (q : Held). owner q.number s.log.entries ≡ Some q.client) got.2 (c.self.invariant.held.owned.slot p.block x got.0);
       loses = loses_at TicketKind (home_in c.ticket.inside.tag) (home_of s.instance s.shelf) p (flight_of x) (view_of s).out (out_of (home_of s.instance s.shelf) s.stays.list s.readings.list s.pins.list c.remove.new.self.slots) at (sym got.2) (fail_loses (home_of s.instance s.shelf) s.stays.list s.readings.list s.pins.list x s.shelf c.remove.new.self moved got.1);
       enters = rw (c.push.ensures, ap (λ (q : Held). q.number) got.2) refl;
     })

@@ -1,0 +1,16 @@
+-- A stage as contracts see it.
+use Rattle.pfc_actor.specs.declared.stage.Stage.{Stage}
+use Rattle.pfc_actor.specs.declared.stage.Stage.TheVariants as stage
+use Rattle.pfc_actor.specs.StageView.{StageView, Rest, Wanted, Making, Joining, Planning, Closing, Closed, Reading, Landed, Full}
+
+abbrev pub seen : {W : Type 0} → Stage W → StageView
+seen stage.Rest = Rest
+seen (stage.Wanted wanted) = Wanted wanted
+seen (stage.Making wanted) = Making wanted
+seen (stage.Joining wanted) = Joining wanted
+seen (stage.Planning number piece) = Planning number piece
+seen (stage.Closing number) = Closing number
+seen stage.Closed = Closed
+seen (stage.Reading op) = Reading op
+seen (stage.Landed op job) = Landed op job
+seen (stage.Full op job) = Full op job

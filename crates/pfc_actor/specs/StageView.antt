@@ -1,0 +1,27 @@
+-- What contracts see of the stage of a client's work.
+use Rattle.std.specs.Prelude.{ℕ}
+use Rattle.pfc_base.specs.declared.block.Piece.{Piece}
+use Rattle.pfc_base.specs.declared.block.Part.{Part}
+use Rattle.pfc_core.specs.Leave.{LeaveView}
+use Rattle.pfc_core.specs.Marks.{Mark}
+use Rattle.pfc_read.specs.OpView.{OpView}
+use Rattle.pfc_actor.specs.Wanted.{WantedView}
+
+-- No request is at work. An open whose size is known, which then makes a core of its file or has found one. A read that
+-- isn't planned yet, a close, and what is left of it. A read that goes on, with a landed block that is to be put to the
+-- queue, or that found the queue full. Within a step, a read with the action that it gave.
+pub data StageView : Type 0 where
+  Rest : StageView
+  Wanted : (wanted : WantedView) → StageView
+  Making : (wanted : WantedView) → StageView
+  Joining : (wanted : WantedView) → StageView
+  Planning : (number : ℕ) (piece : Piece) → StageView
+  Closing : (number : ℕ) → StageView
+  Closed : StageView
+  Reading : (op : OpView) → StageView
+  Landed : (op : OpView) (job : Mark) → StageView
+  Full : (op : OpView) (job : Mark) → StageView
+  Running : (op : OpView) (ticket : Mark) → StageView
+  Directing : (op : OpView) (leave : LeaveView) → StageView
+  Looking : (op : OpView) (pin : Mark) (part : Part) → StageView
+  Ending : (op : OpView) → StageView

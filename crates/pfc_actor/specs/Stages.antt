@@ -1,0 +1,153 @@
+-- What a client at a stage of its work holds and owes.
+use Rattle.std.specs.Prelude.{◌≡◌, ℕ, ◌+◌, ◌*◌, ◌<◌, ◌≤◌, ◌==◌, Bool, true, false, List, length, count_by, Option, Some, None, slice_get, Result, Ok, if◌then◌else◌}
+use Rattle.pfc_base.specs.declared.block.Piece.{Piece}
+use Rattle.pfc_log.specs.declared.entry.Fell.{Fell}
+use Rattle.pfc_log.specs.declared.entry.Fell.TheVariants.{Fault, Memory}
+use Rattle.pfc_client.specs.declared.request.Request.{Request}
+use Rattle.pfc_client.specs.declared.request.Request.TheVariants as q
+use Rattle.pfc_client.specs.declared.request.RequestRefusal.{RequestRefusal}
+use Rattle.pfc_client.specs.Requests.{request_of}
+use Rattle.pfc_client.specs.Session.{place_at, is_free}
+use Rattle.pfc_client.specs.Permitted.{most_bytes, is_fetch}
+use Rattle.pfc_core.specs.Marks.{Mark, TicketKind}
+use Rattle.pfc_core.specs.View.{CoreView}
+use Rattle.pfc_read.specs.OpView.{OpView, Given, Nothing, ToRun, ToFill, ToLook, ToEnd, held}
+use Rattle.pfc_read.specs.Steps.{IsTokenOf, IsLeaveOf, IsPinFor}
+use Rattle.pfc_actor.specs.StageView as st
+use Rattle.pfc_actor.specs.StageView.{StageView}
+use Rattle.pfc_actor.specs.Books.{BookView, IsNext, open_weight}
+
+-- the tokens that the request at work holds, weighed
+abbrev pub stage_weight : (Mark → ℕ) → StageView → ℕ
+stage_weight w (st.Reading op) = held w op
+stage_weight w (st.Landed op job) = held w op + w job
+stage_weight w (st.Full op job) = held w op + w job
+stage_weight w (st.Running op ticket) = held w op + w ticket
+stage_weight w (st.Directing op leave) = held w op
+stage_weight w (st.Looking op pin part) = held w op + w pin
+stage_weight w (st.Ending op) = held w op
+stage_weight w _ = 0
+
+-- all that the client holds, weighed
+abbrev pub weight : (Mark → ℕ) → BookView → StageView → ℕ
+weight w b st = open_weight w b.stays + stage_weight w st
+
+-- direct reads that are entered and aren't made yet
+abbrev pub owed : StageView → ℕ
+owed (st.Reading op) = op.leaves
+owed (st.Landed op job) = op.leaves
+owed (st.Full op job) = op.leaves
+owed (st.Running op ticket) = op.leaves
+owed (st.Directing op leave) = op.leaves + 1
+owed (st.Looking op pin part) = op.leaves
+owed (st.Ending op) = op.leaves
+owed _ = 0
+
+-- 1 where the size was asked for and there is no reply yet
+abbrev pub asking : StageView → ℕ
+asking (st.Wanted wanted) = 1
+asking (st.Making wanted) = 1
+asking (st.Joining wanted) = 1
+asking _ = 0
+
+-- the flights of the read at work that failed
+abbrev pub failing : StageView → ℕ
+failing (st.Reading op) = op.failed
+failing (st.Landed op job) = op.failed
+failing (st.Full op job) = op.failed
+failing (st.Running op ticket) = op.failed
+failing (st.Directing op leave) = op.failed
+failing (st.Looking op pin part) = op.failed
+failing (st.Ending op) = op.failed
+failing _ = 0
+
+abbrev pub is_fault : Option Fell → ℕ
+is_fault (Some Fault) = 1
+is_fault _ = 0
+
+-- 1 where the reply will be that a fetch failed
+abbrev pub doomed : StageView → ℕ
+doomed (st.Reading op) = is_fault op.met
+doomed (st.Landed op job) = is_fault op.met
+doomed (st.Full op job) = is_fault op.met
+doomed (st.Running op ticket) = is_fault op.met
+doomed (st.Directing op leave) = is_fault op.met
+doomed (st.Looking op pin part) = is_fault op.met
+doomed (st.Ending op) = is_fault op.met
+doomed _ = 0
+
+-- The parts that the read at work found in memory, waits for, and reads from the origin itself, if it is of this core.
+pub record Shares : Type 0 where
+  pub hits : ℕ
+  pub waits : ℕ
+  pub directs : ℕ
+
+abbrev pub no_shares : Shares
+no_shares = record { hits = 0; waits = 0; directs = 0 }
+
+abbrev pub op_shares : ℕ → OpView → Shares
+op_shares i op = if op.reading.instance == i then record { hits = op.hits; waits = op.waits; directs = op.directs } else no_shares
+
+abbrev pub shares : ℕ → StageView → Shares
+shares i (st.Reading op) = op_shares i op
+shares i (st.Landed op job) = op_shares i op
+shares i (st.Full op job) = op_shares i op
+shares i (st.Running op ticket) = op_shares i op
+shares i (st.Directing op leave) = op_shares i op
+shares i (st.Looking op pin part) = op_shares i op
+shares i (st.Ending op) = op_shares i op
+shares i _ = no_shares
+
+-- ---- what fits the request at work
+
+-- this request is answered next
+pub record IsAsked (b : BookView) (request : Request) : Type 0 where
+  pub going : b.shut ≡ false
+  pub next : IsNext b (Ok request)
+
+-- an open of a free descriptor
+pub record Opens (b : BookView) (number : ℕ) (path : List ℕ) : Type 0 where
+  pub asked : IsAsked b (q.Open number path)
+  pub free : is_free b.stays number ≡ true
+
+-- a read of an open descriptor, and of no more bytes than one gives
+pub record Reads (b : BookView) (number : ℕ) (piece : Piece) (stay : Mark) : Type 0 where
+  pub asked : IsAsked b (q.Read number piece)
+  pub is_open : place_at b.stays number ≡ Some stay
+  pub short : piece.len ≤ most_bytes
+
+-- the read at work, with this action given
+pub record GoesOn (b : BookView) (op : OpView) (given : Given) : Type 0 where
+  pub number : ℕ
+  pub stay : Mark
+  pub reads : Reads b number op.piece stay
+  pub path_is : op.reading.path ≡ stay.path
+  pub size_is : op.reading.size ≡ stay.size
+  pub client_is : op.reading.client ≡ b.number
+  pub given_is : op.given ≡ given
+
+abbrev pub AtWork : BookView → StageView → Type 0
+AtWork b st.Rest = length b.replies < length b.asked → b.shut ≡ false
+AtWork b (st.Wanted wanted) = Opens b wanted.number wanted.path
+AtWork b (st.Making wanted) = Opens b wanted.number wanted.path
+AtWork b (st.Joining wanted) = Opens b wanted.number wanted.path
+AtWork b (st.Planning number piece) = (stay : Mark) × Reads b number piece stay
+AtWork b (st.Closing number) = IsAsked b (q.Close number) × ((stay : Mark) × (place_at b.stays number ≡ Some stay))
+AtWork b st.Closed = b.shut ≡ false
+AtWork b (st.Reading op) = GoesOn b op Nothing
+AtWork b (st.Landed op job) = GoesOn b op Nothing × (job.instance ≡ op.reading.instance)
+AtWork b (st.Full op job) = GoesOn b op Nothing × (job.instance ≡ op.reading.instance)
+AtWork b (st.Running op ticket) = GoesOn b op ToRun × IsTokenOf op.reading TicketKind ticket
+AtWork b (st.Directing op leave) = GoesOn b op (ToFill leave.part) × IsLeaveOf op.reading leave
+AtWork b (st.Looking op pin part) = GoesOn b op (ToLook part) × IsPinFor op.reading part pin
+AtWork b (st.Ending op) = GoesOn b op ToEnd × (op.leaves ≡ 0)
+
+-- the next step of the client is one on this core
+abbrev pub Here : BookView → StageView → CoreView → Type 0
+Here b (st.Making wanted) c = c.path ≡ wanted.path
+Here b (st.Joining wanted) c = c.path ≡ wanted.path
+Here b (st.Planning number piece) c = (stay : Mark) → place_at b.stays number ≡ Some stay → stay.instance ≡ c.instance
+Here b (st.Closing number) c = (stay : Mark) → place_at b.stays number ≡ Some stay → stay.instance ≡ c.instance
+Here b (st.Reading op) c = op.reading.instance ≡ c.instance
+Here b (st.Full op job) c = op.reading.instance ≡ c.instance
+Here b _ c = ⊥

@@ -1,0 +1,391 @@
+ghost use Rattle.std.specs.Prelude.{◌≡◌, IfOk, IfSome};
+ghost use Rattle.pfc_base.specs.Block.{IsPartOf};
+
+use crate::{Decision, FileCore, Flight, Job, Line, Look, Pin, Stay, Strayed, Ticket};
+use pfc_base::{Part, Path, block_count, block_len};
+use pfc_log::{DropCause, Fell, Mark, Served, Stranger, push_log};
+use pfc_memory::{MemoryHost, MemoryLink, RowWorld};
+use pfc_world::Host;
+use std::alloc::Global;
+use std::test::Fail;
+
+const BLOCK_SIZE: u64 = 4096;
+
+type Core = FileCore<RowWorld>;
+
+type RowLine = Line<RowWorld, MemoryLink<RowWorld>>;
+
+/// A line of which the calls with these numbers fail.
+fn line_of(alloc: Global, number: u32, fails: &[u64]) -> Result<RowLine, Fail> {
+    let mut named = Vec::new(alloc);
+    for fail in fails {
+        named.push((number, *fail))?;
+    }
+    let mut host = MemoryHost::new(alloc, Vec::new(alloc), named, Vec::new(alloc))?;
+    Ok(Line::new(host.link(alloc, number)?))
+}
+
+/// A core of the file `/w` of 4096 bytes, for which the line is asked once.
+fn core_of(alloc: Global, instance: u64, line: &mut RowLine) -> Result<Core, Fail> {
+    let path = Path::read(b"/w")?;
+    let known = line.stat(&path)?.ok_or("no file")?;
+    if block_count(known.size(), BLOCK_SIZE) > 16777216 {
+        return Err(Fail::new("too many blocks"));
+    }
+    Ok(FileCore::new(alloc, instance, known, BLOCK_SIZE)?)
+}
+
+/// Two bytes of the first block.
+fn part_of(core: &Core) -> Option<Part>
+    ensures { IfSome result (λ part. IsPartOf core.now.size core.now.block_size part) }
+{
+    let size = core.known().size();
+    let block_size = core.block_size();
+    if block_size == 0 || block_size > 16777216 || block_count(size, block_size) == 0 {
+        return None;
+    }
+    if block_len(size, block_size, 0) < 9 {
+        return None;
+    }
+    Some(Part {
+        block: 0,
+        from: 7,
+        len: 2,
+    })
+}
+
+/// The first client to ask begins a flight.
+fn begin(core: &mut Core, n: u32) -> Result<(Ticket<RowWorld>, Pin<RowWorld>, Part), Fail>
+    ensures { IfOk result (λ all. (all.2.block ≡ all.1.block) × IsPartOf all.1.size all.1.block_size all.2) }
+{
+    let part = part_of(core).ok_or("a short file")?;
+    match core.decide(n, part)? {
+        Decision::Fetch(ticket, pin) => Ok((ticket, pin, part)),
+        Decision::Joined(_pin) => Err(Fail::new("a flight is out")),
+        Decision::Resident(_pin) => Err(Fail::new("the block is there")),
+    }
+}
+
+/// The next one joins it.
+fn join(core: &mut Core, n: u32) -> Option<(Pin<RowWorld>, Part)>
+    ensures { IfSome result (λ all. (all.1.block ≡ all.0.block) × IsPartOf all.0.size all.0.block_size all.1) }
+{
+    let part = part_of(core)?;
+    match core.decide(n, part).ok()? {
+        Decision::Joined(pin) => Some((pin, part)),
+        Decision::Resident(_pin) => None,
+        Decision::Fetch(ticket, _pin) => {
+            ticket.discard();
+            None
+        }
+    }
+}
+
+/// Runs the flight to its end.
+fn fly(
+    alloc: Global,
+    core: &mut Core,
+    line: &mut RowLine,
+    ticket: Ticket<RowWorld>,
+) -> Result<Option<Job<RowWorld>>, Fail> {
+    match line.run(alloc, ticket) {
+        Flight::Landed(ticket, twin) => match core.land(ticket, twin) {
+            Ok(job) => Ok(Some(job)),
+            Err(Strayed { token, why: _ }) => {
+                let (ticket, _twin) = token;
+                ticket.discard();
+                Err(Fail::new("a strayed ticket"))
+            }
+        },
+        Flight::Fault(ticket) => match core.fail(ticket, Fell::Fault) {
+            Ok(()) => Ok(None),
+            Err(Strayed { token, why: _ }) => {
+                token.discard();
+                Err(Fail::new("a strayed ticket"))
+            }
+        },
+        Flight::Memory(ticket) => {
+            ticket.discard();
+            Err(Fail::new("no memory"))
+        }
+    }
+}
+
+/// The bytes that a look copied, and the pin.
+fn ready(core: &mut Core, pin: Pin<RowWorld>, part: Part) -> Result<(Pin<RowWorld>, [u8; 2]), Fail>
+    requires block { part.block ≡ pin.block }
+    requires part { IsPartOf pin.size pin.block_size part }
+{
+    let mut bytes = [0u8; 2];
+    if part.len != 2 {
+        return Err(Fail::new("another part"));
+    }
+    match core.look(pin, part, &mut bytes) {
+        Look::Ready(pin) => Ok((pin, bytes)),
+        Look::Flying(_pin) => Err(Fail::new("the flight is out")),
+        Look::Own(_pin) => Err(Fail::new("the flight failed")),
+        Look::Lost(leave) => {
+            leave.discard();
+            Err(Fail::new("the flight failed"))
+        }
+        Look::Stray(leave) => {
+            leave.discard();
+            Err(Fail::new("a strayed pin"))
+        }
+    }
+}
+
+/// Whether the flight was the client's own.
+fn is_own(core: &mut Core, pin: Pin<RowWorld>, part: Part) -> Result<bool, Fail>
+    requires block { part.block ≡ pin.block }
+    requires part { IsPartOf pin.size pin.block_size part }
+{
+    let mut bytes = [0u8; 2];
+    if part.len != 2 {
+        return Err(Fail::new("another part"));
+    }
+    match core.look(pin, part, &mut bytes) {
+        Look::Own(pin) => match core.unpin(pin) {
+            Ok(()) => Ok(true),
+            Err(Strayed { token: _, why: _ }) => Ok(false),
+        },
+        Look::Ready(_pin) => Ok(false),
+        Look::Flying(_pin) => Ok(false),
+        Look::Lost(leave) => {
+            leave.discard();
+            Ok(false)
+        }
+        Look::Stray(leave) => {
+            leave.discard();
+            Ok(false)
+        }
+    }
+}
+
+/// The second client reads by its own line what the failed flight was to bring.
+fn read_lost(
+    alloc: Global,
+    core: &mut Core,
+    waiting: Waiting,
+    into: &mut [u8; 2],
+) -> Result<(), Fail>
+    requires block { waiting.1.block ≡ waiting.0.block }
+    requires part { IsPartOf waiting.0.size waiting.0.block_size waiting.1 }
+{
+    let mut line = line_of(alloc, 2, &[])?;
+    let (pin, part) = waiting;
+    if part.len != 2 {
+        return Err(Fail::new("another part"));
+    }
+    match core.look(pin, part, into) {
+        Look::Lost(leave) => Ok(line.direct(leave, into)?),
+        Look::Own(_pin) => Err(Fail::new("the client's own flight")),
+        Look::Ready(_pin) => Err(Fail::new("the block is there")),
+        Look::Flying(_pin) => Err(Fail::new("the flight is out")),
+        Look::Stray(leave) => {
+            leave.discard();
+            Err(Fail::new("a strayed pin"))
+        }
+    }
+}
+
+/// Ends a client's read.
+fn serve(
+    core: &mut Core,
+    pins: &mut Vec<Pin<RowWorld>>,
+    n: u32,
+    served: Served,
+) -> Result<(), Fail> {
+    let reading = core.begin_read(n)?;
+    match core.finish(reading, pins, Some(served)) {
+        Ok(()) => Ok(()),
+        Err(Strayed { token, why: _ }) => {
+            token.discard();
+            Err(Fail::new("a strayed reading"))
+        }
+    }
+}
+
+fn close(core: &mut Core, stay: Stay<RowWorld>) -> Result<(), Fail> {
+    match core.detach(stay) {
+        Ok(()) => Ok(()),
+        Err(Strayed { token: _, why: _ }) => Err(Fail::new("a strayed stay")),
+    }
+}
+
+/// The log of a core that has ended.
+fn log_of(alloc: Global, core: Core) -> Result<Vec<u8>, Fail> {
+    let mut out = Vec::new(alloc);
+    let path = core.known().path().copy();
+    let Ok(retired) = core.retire() else {
+        return Err(Fail::new("a token is out"));
+    };
+    push_log(alloc, &mut out, &path, &retired.log)?;
+    Ok(out)
+}
+
+type Waiting = (Pin<RowWorld>, Part);
+
+/// Two clients ask for the block, one flight is run to its end, and its job is dropped.
+fn share(
+    alloc: Global,
+    core: &mut Core,
+    line: &mut RowLine,
+) -> Result<(Waiting, Waiting, bool), Fail>
+    ensures first { IfOk result (λ all. (all.0.1.block ≡ all.0.0.block) × IsPartOf all.0.0.size all.0.0.block_size all.0.1) }
+    ensures second { IfOk result (λ all. (all.1.1.block ≡ all.1.0.block) × IsPartOf all.1.0.size all.1.0.block_size all.1.1) }
+{
+    let (ticket, first, part) = begin(core, 1)?;
+    let joined = join(core, 2);
+    let job = fly(alloc, core, line, ticket)?;
+    let second = joined.ok_or("another flight")?;
+    let landed = job.is_some();
+    if let Some(job) = job {
+        if let Err(Strayed { token: _, why: _ }) = core.drop_job(
+            job,
+            DropCause::Full { capacity: 0 },
+        ) {
+            return Err(Fail::new("a strayed job"));
+        }
+    }
+    Ok(((first, part), second, landed))
+}
+
+/// A client reads the part that it waits for, and its read ends.
+fn read(alloc: Global, core: &mut Core, waiting: Waiting, n: u32) -> Result<[u8; 2], Fail>
+    requires block { waiting.1.block ≡ waiting.0.block }
+    requires part { IsPartOf waiting.0.size waiting.0.block_size waiting.1 }
+{
+    let (pin, part) = waiting;
+    let (pin, bytes) = ready(core, pin, part)?;
+    let mut pins = Vec::new(alloc);
+    pins.push(pin)?;
+    serve(
+        core,
+        &mut pins,
+        n,
+        Served {
+            hit: 0,
+            missed: 2,
+            bypassed: 0,
+        },
+    )?;
+    Ok(bytes)
+}
+
+/// Both clients leave, and the core ends.
+fn leave(
+    alloc: Global,
+    mut core: Core,
+    stays: (Stay<RowWorld>, Stay<RowWorld>),
+) -> Result<Vec<u8>, Fail> {
+    close(&mut core, stays.0)?;
+    close(&mut core, stays.1)?;
+    log_of(alloc, core)
+}
+
+#[test]
+fn two_clients_share_one_flight(rt: HostRuntime) -> Result<(), Fail> {
+    let alloc = rt.alloc();
+    let mut line = line_of(alloc, 1, &[])?;
+    let mut core = core_of(alloc, 5, &mut line)?;
+    let stays = (core.attach(1)?, core.attach(2)?);
+    let (first, second, landed) = share(alloc, &mut core, &mut line)?;
+    assert!(rt; landed);
+    // Byte j of the file is j modulo 251, and the part begins at byte 7.
+    assert_eq!(rt;
+        read(alloc, &mut core, first, 1)?.as_slice(),
+        [7, 8].as_slice()
+    );
+    assert_eq!(rt;
+        read(alloc, &mut core, second, 2)?.as_slice(),
+        [7, 8].as_slice()
+    );
+    let log = leave(alloc, core, stays)?;
+    assert_eq!(rt;
+        log.as_slice(),
+        b"log /w stored -\nopened 1\nopened 2\nbegin 0 0 1\njoin 0 0 2\nlanded 0\ndropped 0 full 0\nserved 1 0 2 0\nserved 2 0 2 0\nleft 0\nclosed 1\nclosed 2\n".as_slice()
+    );
+    Ok(())
+}
+
+#[test]
+fn the_client_that_joined_a_failed_flight_reads_from_the_origin(
+    rt: HostRuntime,
+) -> Result<(), Fail> {
+    let alloc = rt.alloc();
+    // Call 0 asks for the size, and call 1 is the flight's.
+    let mut line = line_of(alloc, 1, &[1])?;
+    let mut core = core_of(alloc, 5, &mut line)?;
+    let stays = (core.attach(1)?, core.attach(2)?);
+    let (first, second, landed) = share(alloc, &mut core, &mut line)?;
+    assert!(rt; !landed);
+    let mut bytes = [0u8; 2];
+    assert!(rt; is_own(&mut core, first.0, first.1)?);
+    read_lost(alloc, &mut core, second, &mut bytes)?;
+    assert_eq!(rt; bytes.as_slice(), [7, 8].as_slice());
+    serve(
+        &mut core,
+        &mut Vec::new(alloc),
+        2,
+        Served {
+            hit: 0,
+            missed: 0,
+            bypassed: 2,
+        },
+    )?;
+    let log = leave(alloc, core, stays)?;
+    assert_eq!(rt;
+        log.as_slice(),
+        b"log /w stored -\nopened 1\nopened 2\nbegin 0 0 1\njoin 0 0 2\nfailed 0 fault\ndirect 0 2 lost 0\nserved 2 0 0 2\nclosed 1\nclosed 2\n".as_slice()
+    );
+    Ok(())
+}
+
+#[test]
+fn strays_come_back(rt: HostRuntime) -> Result<(), Fail> {
+    let alloc = rt.alloc();
+    let mut line = line_of(alloc, 1, &[])?;
+    let mut core = core_of(alloc, 5, &mut line)?;
+    let mut other = core_of(alloc, 6, &mut line)?;
+    let stay = core.attach(1)?;
+    let strayed = Stranger {
+        token: Mark {
+            instance: 5,
+            number: 0,
+        },
+        instance: 6,
+    };
+    let stay = match other.detach(stay) {
+        Ok(()) => return Err(Fail::new("a stay of another core")),
+        Err(Strayed { token, why }) => {
+            assert_eq!(rt; why, strayed);
+            token
+        }
+    };
+    close(&mut core, stay)?;
+    let (ticket, pin, part) = begin(&mut core, 1)?;
+    // The other core has no flight, and hands the ticket back.
+    let why = match other.fail(ticket, Fell::Memory) {
+        Ok(()) => return Err(Fail::new("a ticket of another core")),
+        Err(Strayed { token, why }) => {
+            token.discard();
+            why
+        }
+    };
+    assert_eq!(rt; why, strayed);
+    let mut bytes = [0u8; 2];
+    match other.look(pin, part, &mut bytes) {
+        Look::Stray(leave) => leave.discard(),
+        Look::Lost(leave) => {
+            leave.discard();
+            return Err(Fail::new("a pin of another core"));
+        }
+        Look::Flying(_pin) => return Err(Fail::new("a pin of another core")),
+        Look::Ready(_pin) => return Err(Fail::new("a pin of another core")),
+        Look::Own(_pin) => return Err(Fail::new("a pin of another core")),
+    }
+    assert!(rt; other.quiet());
+    assert!(rt; !core.quiet());
+    Ok(())
+}
