@@ -350,6 +350,7 @@ impl<W: World, O: Origin<W>> Client<W, O> {
     pub fn end(self) -> (u32, O, Vec<Reply>)
         ensures number { result.0 ≡ self.book.number }
         ensures replies { result.2.items ≡ self.book.replies }
+        ensures mine { O.number result.1 ≡ self.book.number }
         ensures link { O.number result.1 ≡ self.line.number }
         ensures calls { O.calls result.1 ≡ self.line.calls }
         ensures faults { O.faults result.1 ≡ self.line.faults }

@@ -3,13 +3,9 @@ use Rattle.std.specs.Prelude.{◌≡◌, ◌≢◌, ℕ, ◌+◌, ◌*◌, ◌<�
 use Rattle.pfc_base.specs.BlockSet.{is_member}
 use Rattle.pfc_world.specs.Files.{Files}
 use Rattle.pfc_world.specs.Counts.{RoseBy, last_count}
-use Rattle.pfc_client.specs.declared.request.Request.{Request}
-use Rattle.pfc_client.specs.declared.request.Request.TheVariants.{Open, Read}
-use Rattle.pfc_client.specs.declared.request.RequestRefusal.{RequestRefusal}
 use Rattle.pfc_client.specs.declared.reply.Reply.{Reply}
-use Rattle.pfc_client.specs.declared.reply.Reply.TheVariants as r
-use Rattle.pfc_client.specs.Requests.{request_of}
 use Rattle.pfc_client.specs.Permitted.{ArePermitted}
+use Rattle.pfc_client.specs.Told.{stats, lost, opens, reads, bytes}
 use Rattle.pfc_log.specs.declared.start.Start.{Start}
 use Rattle.pfc_log.specs.declared.start.Start.TheVariants as start
 use Rattle.pfc_log.specs.Lawful.{IsComplete}
@@ -22,41 +18,6 @@ use Rattle.pfc_report.specs.Report.{ReportView}
 -- the calls and the faults of each client's link
 abbrev pub Spent : Type 0
 Spent = ℕ → ℕ × ℕ
-
--- ---- what is counted of replies
-
--- an open for which the origin was asked: its reply says what the origin answered, or that the call failed, or that memory
--- was refused after it
-abbrev pub is_stat : Result Request RequestRefusal → Reply → Bool
-is_stat (Ok (Open number path)) (r.Size size) = true
-is_stat (Ok (Open number path)) r.NoFile = true
-is_stat (Ok (Open number path)) r.Fetch = true
-is_stat (Ok (Open number path)) r.Memory = true
-is_stat _ _ = false
-
--- the bytes that a read asked for which got none of them
-abbrev pub lost_by : Result Request RequestRefusal → Reply → ℕ
-lost_by (Ok (Read number piece)) r.Fetch = piece.len
-lost_by (Ok (Read number piece)) r.Memory = piece.len
-lost_by _ _ = 0
-
-abbrev pub stats : List (List ℕ) → List Reply → ℕ
-stats lines replies = count_by (λ x. is_stat (request_of x.0) x.1) (zip lines replies)
-
-abbrev pub lost : List (List ℕ) → List Reply → ℕ
-lost lines replies = sum_by (λ x. lost_by (request_of x.0) x.1) (zip lines replies)
-
-abbrev pub is_size : Reply → Bool
-is_size (r.Size size) = true
-is_size _ = false
-
-abbrev pub is_bytes : Reply → Bool
-is_bytes (r.Bytes bytes) = true
-is_bytes _ = false
-
-abbrev pub bytes_in : Reply → ℕ
-bytes_in (r.Bytes bytes) = length bytes
-bytes_in _ = 0
 
 -- ---- what is counted of logs
 
@@ -108,9 +69,9 @@ pub record FitBlocks (k : ℕ) (t : Tally) : Type 0 where
 -- What the logs say that client n was served is what it was told: a `served` for each reply with bytes, and the same bytes
 -- together; an `opened` for each size.
 pub record IsServed (k n : ℕ) (replies : List Reply) (logs : List Section) : Type 0 where
-  pub served : over (λ t. t.served) n logs ≡ count_by is_bytes replies
-  pub bytes : over (λ t. t.hit) n logs + over (λ t. t.missed) n logs + over (λ t. t.bypassed) n logs ≡ sum_by bytes_in replies
-  pub opened : over (λ t. t.opened) n logs ≡ count_by is_size replies
+  pub served : over (λ t. t.served) n logs ≡ reads replies
+  pub bytes : over (λ t. t.hit) n logs + over (λ t. t.missed) n logs + over (λ t. t.bypassed) n logs ≡ bytes replies
+  pub opened : over (λ t. t.opened) n logs ≡ opens replies
   pub blocks : All (λ section. FitBlocks k (tally_in n section)) logs
 
 -- Client n's flights that failed: no more of them by a fault than its link's faults rose, and no more of them in all than

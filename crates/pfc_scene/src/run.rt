@@ -1,0 +1,231 @@
+// A run of a plan: its clients and their links, its steps, its drain, its end.
+ghost use Rattle.std.specs.Prelude.{◌≡◌, ◌<◌, ◌≤◌, ◌+◌, ◌++◌, ◌∷◌, [], ℕ, List, length, slice_index_or, take, map, IfOk, OnOk, IsTrue, vec_len, vec_capacity, replicate, None, false, true, All, IfSome, ⊤, reverse, if◌then◌else◌};
+ghost use Rattle.pfc_report.specs.Schedule.{Line, asked, asked_clients};
+ghost use Rattle.pfc_report.specs.Plan.{line_of};
+ghost use Rattle.pfc_report.specs.Spent.{rows_of, spent_by, nothing_spent};
+ghost use Rattle.pfc_report.specs.Caused.{IsCausedReport};
+ghost use Rattle.pfc_actor.specs.Clients.{ClientView, IsDone};
+ghost use Rattle.pfc_scene.specs.Scenes.{SceneView, IsScene, who, number_of};
+ghost use Rattle.pfc_actor.specs.Clients.{IsFresh};
+ghost use Rattle.pfc_scene.specs.Ends.{AreSections, row_of, told_of, asked_by, all_asked, fresh_book};
+
+use crate::scene::Scene;
+use pfc_actor::{Book, Client};
+use pfc_base::Memory;
+use pfc_core::FileCore;
+use pfc_report::{CLIENTS, Plan, Replies, Report, Section, Step, Told};
+use pfc_world::{Origin, World};
+use std::alloc::Global;
+
+/// Whether each client is done.
+fn all_done<W: World, O: Origin<W>>(clients: &[Client<W, O>]) -> bool
+    ensures { IsTrue result → (j : ℕ) (d : ClientView) → j < length clients.now → IsDone W.told W.files (slice_index_or clients.now j d).book (slice_index_or clients.now j d).line (slice_index_or clients.now j d).stage }
+{
+    for j in 0..clients.len() {
+        if !clients[j].is_done() {
+            return false;
+        }
+    }
+    true
+}
+
+/// Ends clients, the last first: their links go into one list, what they were told into another.
+fn end_clients<W: World, O: Origin<W>>(
+    mut clients: Vec<Client<W, O>>,
+    links: &mut Vec<O>,
+    told: &mut Vec<Told>,
+)
+    requires link_room { length links.old.items + length clients.items ≤ vec_capacity links.old }
+    requires told_room { length told.old.items + length clients.items ≤ vec_capacity told.old }
+    ensures links { rows_of O.number O.calls O.faults links.new.items ≡ rows_of O.number O.calls O.faults links.old.items ++ map row_of (reverse clients.items) }
+    ensures told { told.new.items ≡ told.old.items ++ map told_of (reverse clients.items) }
+    ensures numbers { map O.number links.new.items ≡ map O.number links.old.items ++ map number_of (reverse clients.items) }
+{
+    while let Some(client) = clients.pop() {
+        let (number, link, replies) = client.end();
+        links.push_reserved(link);
+        told.push_reserved(Told {
+            number,
+            replies: Replies::new(replies),
+        });
+    }
+    clients.destroy_empty();
+}
+
+/// Ends cores: the log of each, with its path.
+fn end_cores<W: World>(alloc: Global, cores: Vec<FileCore<W>>) -> Result<Vec<Section>, Memory>
+    ensures { IfOk result (λ logs. AreSections logs.items cores.items) }
+{
+    let mut logs = Vec::with_capacity(alloc, cores.len())?;
+    for core in cores {
+        let path = core.known().path().copy();
+        match core.retire() {
+            Ok(retired) => logs.push_reserved(Section {
+                path,
+                log: retired.log,
+            }),
+            Err(_) => return Err(Memory),
+        }
+    }
+    Ok(logs)
+}
+
+/// Plays one step of a plan.
+fn play_step<W: World, O: Origin<W>>(
+    alloc: Global,
+    scene: &mut Scene<W, O>,
+    step: Step<'_>,
+) -> Result<(), Memory>
+    ensures asked { OnOk result (map who scene.new.clients ≡ map (all_asked (line_of step.entry ∷ [])) (map who scene.old.clients)) }
+    ensures numbers { map number_of scene.new.clients ≡ map number_of scene.old.clients }
+    ensures block_size { scene.new.block_size ≡ scene.old.block_size }
+    ensures length { length scene.new.clients ≡ length scene.old.clients }
+{
+    match step {
+        Step::Ask { client, rest } => scene.ask(alloc, client, rest),
+        Step::Go { client, times } => {
+            scene.go(alloc, client, times);
+            Ok(())
+        }
+    }
+}
+
+/// Plays the steps of a plan.
+fn play<W: World, O: Origin<W>>(
+    alloc: Global,
+    scene: &mut Scene<W, O>,
+    plan: &Plan<'_>,
+) -> Result<(), Memory>
+    ensures asked { OnOk result (map who scene.new.clients ≡ map (all_asked plan.now) (map who scene.old.clients)) }
+    ensures numbers { map number_of scene.new.clients ≡ map number_of scene.old.clients }
+    ensures block_size { scene.new.block_size ≡ scene.old.block_size }
+    ensures length { length scene.new.clients ≡ length scene.old.clients }
+{
+    for step in plan.steps() {
+        play_step(alloc, scene, *step)?;
+    }
+    Ok(())
+}
+
+impl<W: World, O: Origin<W>> Scene<W, O> {
+    /// The end of a run: the links of its clients, and its report where each client is done and each core ended. The lists
+    /// that are handed in are empty, with room for all clients.
+    fn end(
+        self,
+        alloc: Global,
+        mut links: Vec<O>,
+        mut told: Vec<Told>,
+    ) -> (Vec<O>, Result<Report, Memory>)
+        requires links { links.items ≡ [] }
+        requires told { told.items ≡ [] }
+        requires link_room { length self.clients ≤ vec_capacity links }
+        requires told_room { length self.clients ≤ vec_capacity told }
+        ensures numbers { map O.number result.0.items ≡ map number_of self.clients }
+        ensures caused { (lines : List Line) → map who self.clients ≡ asked_by lines → IfOk result.1 (IsCausedReport W.told W.files self.block_size lines nothing_spent (spent_by (rows_of O.number O.calls O.faults result.0.items))) }
+    {
+        let (mut clients, cores) = self.parts();
+        let done = all_done(&clients);
+        clients.reverse();
+        end_clients(clients, &mut links, &mut told);
+        if !done {
+            return (links, Err(Memory));
+        }
+        match end_cores(alloc, cores) {
+            Ok(logs) => (links, Ok(Report::new(told, logs))),
+            Err(memory) => (links, Err(memory)),
+        }
+    }
+}
+
+/// Makes the book of a client, if it is wanted.
+fn add_book<W: World>(
+    alloc: Global,
+    books: &mut Vec<Book<W>>,
+    number: u32,
+    wanted: bool,
+) -> Result<(), Memory>
+    requires { All (λ b. b ≡ fresh_book b.number) books.old.items }
+    ensures numbers { OnOk result (map (λ b. b.number) books.new.items ≡ map (λ b. b.number) books.old.items ++ (if wanted then number ∷ [] else [])) }
+    ensures fresh { OnOk result (All (λ b. b ≡ fresh_book b.number) books.new.items) }
+{
+    if !wanted {
+        return Ok(());
+    }
+    let book = Book::new(alloc, number)?;
+    books.push(book)?;
+    Ok(())
+}
+
+/// The books of the clients that a plan asks anything, in order of number.
+fn make_books<W: World>(alloc: Global, plan: &Plan<'_>) -> Result<Vec<Book<W>>, Memory>
+    ensures numbers { IfOk result (λ books. map (λ b. b.number) books.items ≡ asked_clients plan.now) }
+    ensures fresh { IfOk result (λ books. All (λ b. b ≡ fresh_book b.number) books.items) }
+{
+    let wanted = plan.asked();
+    let mut books = Vec::with_capacity(alloc, CLIENTS)?;
+    for number in 1..CLIENTS as u32 + 1 {
+        add_book(alloc, &mut books, number, wanted[number as usize])?;
+    }
+    Ok(books)
+}
+
+/// Clients of these books and links, the last first.
+fn make_clients<W: World, O: Origin<W>>(
+    mut books: Vec<Book<W>>,
+    links: &mut Vec<O>,
+    clients: &mut Vec<Client<W, O>>,
+)
+    requires rows { rows_of O.number O.calls O.faults links.old.items ≡ map (λ b. (b.number, 0, 0)) books.items }
+    requires fresh { All (λ b. b ≡ fresh_book b.number) books.items }
+    requires room { length books.items ≤ vec_capacity clients.old }
+    requires none { clients.old.items ≡ [] }
+    ensures links { links.new.items ≡ [] }
+    ensures capacity { vec_capacity links.new ≡ vec_capacity links.old }
+    ensures fresh { All (λ a. IsFresh a.book.number a) clients.new.items }
+    ensures numbers { map number_of clients.new.items ≡ reverse (map (λ b. b.number) books.items) }
+{
+    while let Some(book) = books.pop() {
+        let Some(link) = links.pop() else {
+            return;
+        };
+        clients.push_reserved(Client::new(book, link));
+    }
+}
+
+/// Runs a plan over fresh links, one for each client that it asks anything, in order of number, and hands them back. Files
+/// have blocks of so many bytes.
+pub fn run_scene<W: World, O: Origin<W>>(
+    alloc: Global,
+    mut links: Vec<O>,
+    plan: &Plan<'_>,
+    block_size: u64,
+) -> (Vec<O>, Result<Report, Memory>)
+    requires least { 4096 ≤ block_size }
+    requires most { block_size ≤ 16777216 }
+    requires fresh { rows_of O.number O.calls O.faults links.items ≡ map (λ n. (n, 0, 0)) (asked_clients plan.now) }
+    ensures numbers { map O.number result.0.items ≡ asked_clients plan.now }
+    ensures caused { IfOk result.1 (IsCausedReport W.told W.files block_size plan.now nothing_spent (spent_by (rows_of O.number O.calls O.faults result.0.items))) }
+{
+    let Ok(books) = make_books(alloc, plan) else {
+        return (links, Err(Memory));
+    };
+    let Ok(told) = Vec::with_capacity(alloc, books.len()) else {
+        return (links, Err(Memory));
+    };
+    let Ok(mut clients) = Vec::with_capacity(alloc, books.len()) else {
+        return (links, Err(Memory));
+    };
+    make_clients(books, &mut links, &mut clients);
+    clients.reverse();
+    let mut scene = Scene::new(alloc, clients, block_size);
+    match play(alloc, &mut scene, plan) {
+        Ok(()) => {
+            scene.drain(alloc);
+            scene.end(alloc, links, told)
+        }
+        Err(memory) => {
+            let (links, _report) = scene.end(alloc, links, told);
+            (links, Err(memory))
+        }
+    }
+}
