@@ -7,6 +7,7 @@ ghost use Rattle.pfc_replay.specs.declared.play.PlayRefusal.TheVariants as stop;
 
 use pfc_base::Memory;
 use pfc_report::{CLIENTS, Plan, Report};
+use pfc_scene::run_scene;
 use pfc_world::{Host, Origin, Refusal, World};
 use std::alloc::{AllocError, Global};
 
@@ -94,22 +95,6 @@ fn give_back<W: World, H: Host<W>>(host: &mut H, links: Vec<H::Link>)
     for link in links {
         host.back(link);
     }
-}
-
-/// Runs a plan over fresh links, one for each client that it asks anything, and hands them back.
-fn run_scene<W: World, O: Origin<W>>(
-    _alloc: Global,
-    links: Vec<O>,
-    _plan: &Plan<'_>,
-    _block_size: u64,
-) -> (Vec<O>, Result<Report, Memory>)
-    requires least { 4096 ≤ _block_size }
-    requires most { _block_size ≤ 16777216 }
-    requires fresh { rows_of O.number O.calls O.faults links.items ≡ fresh_rows (asked_clients _plan.now) }
-    ensures numbers { map O.number result.0.items ≡ asked_clients _plan.now }
-    ensures caused { IfOk result.1 (IsCausedReport W.told W.files _block_size _plan.now nothing_spent (spent_by (rows_of O.number O.calls O.faults result.0.items))) }
-{
-    (links, Err(Memory))
 }
 
 /// Runs a plan over links that were made for it, and gives them back.
