@@ -1,1 +1,4 @@
 pub mod Walks
+pub mod Sessions
+pub mod Permitting
+pub mod Telling

@@ -2,3 +2,4 @@ pub mod Permitted
 pub mod Replies
 pub mod Requests
 pub mod Session
+pub mod Told

@@ -21,6 +21,10 @@ File = List ℕ × ℕ
 abbrev pub Table : Type 0
 Table = List (Option File)
 
+-- the files of what a session has open
+abbrev pub files_of : {K : Type 0} → (K → File) → List (Option K) → Table
+files_of f session = map (option_map f) session
+
 abbrev pub nothing_open : Table
 nothing_open = replicate 16 None
 

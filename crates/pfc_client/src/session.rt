@@ -1,4 +1,4 @@
-ghost use Rattle.std.specs.Prelude.{◌≡◌, ◌<◌, List, Option, Some, None, option_map, replicate, slice_set, slice_index_or, true, false, IfOk, MatchResult, MatchOption, vec_len};
+ghost use Rattle.std.specs.Prelude.{◌≡◌, ◌<◌, List, Option, Some, None, option_map, replicate, slice_set, slice_index_or, true, false, IfOk, MatchResult, MatchOption, vec_len, length};
 ghost use Rattle.pfc_client.specs.Session.{place_at, is_free};
 
 use pfc_base::Memory;
@@ -73,5 +73,12 @@ impl<T: Drop> Session<T> {
             return None;
         }
         self.places[number as usize].take()
+    }
+
+    /// Hands out what the type keeps: there are sixteen descriptors.
+    pub fn sixteen(&self)
+        ensures { length self.now ≡ 16 }
+    {
+        let _places = self.places.len();
     }
 }

@@ -1,6 +1,7 @@
 // Tokens: what a core gives out, and takes back once. Contracts see each as its mark. Those that must be spent can't be
 // dropped; `discard` ends one that no core takes.
 ghost use Rattle.std.specs.Prelude.{◌≡◌, ◌<◌, ◌≤◌, ℕ, MatchBool, IfOk};
+ghost use Rattle.pfc_world.specs.Files.{HasSize};
 ghost use Rattle.pfc_core.specs.Out.{Home, mark_in};
 ghost use Rattle.pfc_core.specs.Tags.{mark_of, IsAt};
 ghost use Rattle.pfc_core.specs.Homes.{home_of};
@@ -73,6 +74,23 @@ impl<W: World> Model for Stay<W> {
     ghost Value = { Mark };
 
     ghost view = { λ t. mark_of StayKind t.tag };
+}
+
+impl<W: World> Stay<W> {
+    /// The number of the core that gave it out.
+    pub fn instance(&self) -> u64
+        ensures { result ≡ self.now.instance }
+    {
+        self.tag.instance
+    }
+
+    /// The size of the file in bytes.
+    pub fn size(&self) -> u64
+        ensures size { result ≡ self.now.size }
+        ensures right { HasSize W.told W.files self.now.path self.now.size }
+    {
+        self.tag.known.size()
+    }
 }
 
 /// The right to one `served` entry. It must be spent.

@@ -48,3 +48,6 @@ nothing_more a = make (omega arith) (omega arith) (omega arith) (omega arith) (o
 -- so it leaves the tally as it is
 pub tally_same : (m : ℕ) (es : List Entry) (x : Entry) → is_client m (client_in (owners es) x) ≡ false → tally m (es ++ x ∷ []) ≡ tally m es
 tally_same m es x h = tally_more m es x ∙ ap (together (tally m es)) (strange m (owners es) x h) ∙ nothing_more (tally m es)
+
+pub together_assoc : (a b c : Tally) → together a (together b c) ≡ together (together a b) c
+together_assoc a b c = make (omega arith) (omega arith) (omega arith) (omega arith) (omega arith) (omega arith) (omega arith) (omega arith) (omega arith) (omega arith) (omega arith)

@@ -1,0 +1,4 @@
+pub mod Books
+-- pub mod Wanted
+-- pub mod Stages
+-- pub mod Steps
