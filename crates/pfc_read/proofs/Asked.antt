@@ -1,11 +1,11 @@
 -- The decisions so far, with one more.
-use Rattle.std.proofs.Common.{◌≡◌, ◌==◌, ◌+◌, ◌*◌, ◌<◌, ◌≤◌, ℕ, true, false, List, [], ◌∷◌, ◌++◌, length, take, map, min, refl, sym, ap, ◌∙◌, arith, subst, get_or, length-append, append-nil, inl, inr}
-use Rattle.std.specs.Prelude.{sum_by, All, vec_capacity, nat_le, nat_lt}
+use Rattle.std.proofs.Common.{◌≡◌, ◌+◌, ◌*◌, ◌<◌, ◌≤◌, ℕ, List, [], ◌∷◌, ◌++◌, length, take, map, refl, sym, ap, ◌∙◌, arith, subst, get_or, length-append, inl, inr}
+use Rattle.std.specs.Prelude.{sum_by, All}
 use Rattle.std.proofs.lemmas.Bool.{cases_lt, le-leb, lt-ltb}
 use Rattle.std.proofs.lemmas.List.{take_more, map-append}
 use Rattle.std.proofs.lemmas.List.Elements.{All-append, All-push, All-weaker}
 use Rattle.std.proofs.lemmas.List.Sums.{sum_by-append, sum_by_push, sum_by-take-le}
-use Rattle.pfc_base.specs.Block.{IsPartOf, block_len_of}
+use Rattle.pfc_base.specs.Block.{IsPartOf}
 use Rattle.pfc_base.specs.declared.block.Part.{Part}
 use Rattle.pfc_log.specs.Tallies.{Tally, tally}
 use Rattle.pfc_span.specs.Tiling.{part_len, AreInRow}
@@ -18,7 +18,7 @@ use Rattle.pfc_read.specs.declared.segment.Source.TheVariants as source
 use Rattle.pfc_read.specs.declared.segment.Segment.{Segment}
 use Rattle.pfc_read.specs.declared.segment.Pending.{Pending}
 use Rattle.pfc_read.specs.declared.draft.Draft.{Draft}
-use Rattle.pfc_read.specs.Segments.{IsPlaced, len_in, covers, len_by, len_from, in_pending, pin_in}
+use Rattle.pfc_read.specs.Segments.{len_in, covers, len_by, len_from, in_pending, pin_in}
 use Rattle.pfc_read.specs.Draft.{pin_of, tickets_of, source_of, hits_of, waits_of, Asks, IsAsked, AreAsked}
 use Rattle.pfc_read.specs.Plans.{DecidesAll, with_asked}
 use Rattle.pfc_read.proofs.Decided.{IsDecided, decided}

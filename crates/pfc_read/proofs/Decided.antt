@@ -1,12 +1,11 @@
 -- What one decision changes.
-use Rattle.std.proofs.Common.{◌≡◌, ◌==◌, ◌+◌, ◌≤◌, ℕ, true, false, List, [], ◌∷◌, ◌++◌, length, refl, sym, ap, ◌∙◌, arith, eq-eqb, add-zero, subst}
+use Rattle.std.proofs.Common.{◌≡◌, ◌==◌, ◌+◌, ◌≤◌, ℕ, false, List, [], ◌∷◌, ◌++◌, length, refl, sym, ap, ◌∙◌, arith, eq-eqb, add-zero}
 use Rattle.std.specs.Prelude.{sum_by, All}
 use Rattle.std.proofs.lemmas.List.Elements.{All-nil, All-cons}
 use Rattle.pfc_log.specs.declared.entry.Entry.{Entry}
 use Rattle.pfc_log.specs.declared.entry.Entry.TheVariants as e
 use Rattle.pfc_log.specs.declared.entry.Spot.TheVariants.{Ram}
-use Rattle.pfc_log.specs.Tallies.{Tally, tally}
-use Rattle.pfc_log.specs.Owners.{owners}
+use Rattle.pfc_log.specs.Tallies.{tally}
 use Rattle.pfc_log.proofs.Tallied.{tally_more, tally_same}
 use Rattle.pfc_core.specs.declared.token.Decision.{Decision}
 use Rattle.pfc_core.specs.declared.token.Decision.TheVariants as d

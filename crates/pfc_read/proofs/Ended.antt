@@ -1,5 +1,5 @@
 -- What a read has when it ends, and what goes back to its core.
-use Rattle.std.proofs.Common.{◌≡◌, ◌==◌, ◌+◌, ◌-◌, ◌*◌, ◌<◌, ◌≤◌, ◌⊎◌, ℕ, Bool, true, false, if◌then◌else◌, List, [], ◌∷◌, ◌++◌, length, take, drop, map, min, reverse, get_or, refl, sym, ap, ◌∙◌, arith, subst, Option, Some, None, IsTrue, inl, inr, append-nil, add-zero, eq-eqb, length-take, length-drop}
+use Rattle.std.proofs.Common.{◌≡◌, ◌==◌, ◌+◌, ◌-◌, ◌<◌, ◌≤◌, ℕ, Bool, true, false, if◌then◌else◌, List, [], ◌∷◌, ◌++◌, length, drop, map, min, reverse, get_or, refl, sym, ap, ◌∙◌, arith, subst, Option, Some, None, inl, inr, append-nil, add-zero, eq-eqb, length-take, length-drop}
 use Rattle.std.specs.Prelude.{sum_by, All, IsSomeAnd, option_map}
 use Rattle.std.proofs.lemmas.Bool.{cases_eq}
 use Rattle.std.proofs.lemmas.List.{ext_get_or, get_or-take, get_or-drop}
@@ -9,9 +9,9 @@ use Rattle.pfc_base.specs.Block.{slice_of}
 use Rattle.pfc_log.specs.declared.entry.Entry.{Entry}
 use Rattle.pfc_log.specs.declared.entry.Entry.TheVariants as e
 use Rattle.pfc_log.specs.declared.entry.Served.{Served}
-use Rattle.pfc_log.specs.Tallies.{Tally, tally}
+use Rattle.pfc_log.specs.Tallies.{tally}
 use Rattle.pfc_log.proofs.Tallied.{tally_more, tally_same}
-use Rattle.pfc_world.specs.Files.{Files, file_at, HasSize}
+use Rattle.pfc_world.specs.Files.{Files, file_at}
 use Rattle.pfc_core.specs.Calls.{Unpins}
 use Rattle.pfc_core.specs.Finishes.{Releases, ReleasesAll, served_entries, Ends, Finishes}
 use Rattle.pfc_core.specs.Leaves.{leaves}
@@ -22,12 +22,12 @@ use Rattle.pfc_read.specs.declared.segment.Hand.{Hand}
 use Rattle.pfc_read.specs.declared.segment.Hand.TheVariants as hand
 use Rattle.pfc_read.specs.declared.segment.Pending.{Pending}
 use Rattle.pfc_read.specs.declared.op.ReadOp.TheInside.{Inside}
-use Rattle.pfc_read.specs.OpView.{ToEnd, OpView, held}
+use Rattle.pfc_read.specs.OpView.{ToEnd, OpView}
 use Rattle.pfc_read.specs.Segments.{covers, len_in, len_from, pin_in, in_pending}
 use Rattle.pfc_read.specs.Steps.{IsTokenOf}
-use Rattle.pfc_read.specs.Ends.{IsData, with_served, Knows, GivesBack, Closes, EndsRead, op_len}
+use Rattle.pfc_read.specs.Ends.{IsData, with_served, Knows, GivesBack, EndsRead}
 use Rattle.pfc_read.specs.Kept.{given_of, weight_in, view_of, IsKept, IsFit}
-use Rattle.pfc_read.proofs.Planned.{sum_by-reverse, sum_by-map-reverse}
+use Rattle.pfc_read.proofs.Planned.{sum_by-map-reverse}
 
 sees_self : (m : Mark) → sees m m ≡ 1
 sees_self m = ap {B = ℕ} (λ (q : Bool). if q then 1 else 0) (same_self m)

@@ -1,15 +1,11 @@
 -- What becomes of the part that is given out.
-use Rattle.std.proofs.Common.{Vec, Global, ◌≡◌, ◌+◌, ◌*◌, ◌<◌, ◌≤◌, ℕ, Bool, List, [], ◌∷◌, ◌++◌, length, map, refl, sym, ap, ◌∙◌, arith, subst, Option, Some, None, length-append}
-use Rattle.std.specs.Prelude.{sum_by, All, IfSome, vec_capacity}
-use Rattle.std.proofs.lemmas.List.Elements.{All-push}
-use Rattle.std.proofs.lemmas.List.Sums.{sum_by_push}
-use Rattle.pfc_base.specs.Block.{IsPartOf, block_len_of}
+use Rattle.std.proofs.Common.{◌≡◌, ◌+◌, ◌*◌, ◌≤◌, ℕ, Bool, List, length, refl, ap, ◌∙◌, arith, subst, Option, Some, None}
 use Rattle.pfc_base.specs.declared.block.Piece.{Piece}
 use Rattle.pfc_log.specs.declared.entry.Fell.{Fell}
 use Rattle.pfc_log.specs.declared.entry.Fell.TheVariants.{Fault, Memory}
 use Rattle.pfc_log.specs.declared.entry.Served.{Served}
 use Rattle.pfc_world.specs.Files.{Files, Holds}
-use Rattle.pfc_core.specs.Marks.{Mark, TicketKind, PinKind}
+use Rattle.pfc_core.specs.Marks.{Mark}
 use Rattle.pfc_read.specs.declared.segment.Source.{Source}
 use Rattle.pfc_read.specs.declared.segment.Source.TheVariants as source
 use Rattle.pfc_read.specs.declared.segment.Segment.{Segment}
@@ -18,12 +14,9 @@ use Rattle.pfc_read.specs.declared.segment.Hand.TheVariants as hand
 use Rattle.pfc_read.specs.declared.segment.Counts.{Counts}
 use Rattle.pfc_read.specs.declared.segment.Owed.{Owed}
 use Rattle.pfc_read.specs.declared.segment.Pending.{Pending}
-use Rattle.pfc_read.specs.declared.op.ReadOp.TheInside.{Inside}
 use Rattle.pfc_read.specs.OpView.{first_met}
-use Rattle.pfc_read.specs.Segments.{IsPlaced, len_in, len_by, len_from, covers, in_pending, in_owed, in_hand, with_part, owed_segment}
-use Rattle.pfc_read.specs.Steps.{IsTokenOf, IsPinFor}
-use Rattle.pfc_read.specs.Kept.{weight_in, is_run, is_look, served_sum, AreOwn, AreCounted, IsSound, IsStaged, IsKept, IsFit, IsOwed}
-use Rattle.pfc_read.proofs.Weights.{SameParts, counted-same}
+use Rattle.pfc_read.specs.Segments.{IsPlaced, len_in, len_by, len_from, covers, in_hand, with_part, owed_segment}
+use Rattle.pfc_read.specs.Kept.{weight_in, is_run, served_sum, AreCounted, IsSound}
 use Rattle.pfc_read.proofs.Written.{IsWritten, agrees-written, agrees-filled, slice-held}
 
 -- the part that is given out is this one

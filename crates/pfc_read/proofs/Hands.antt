@@ -1,21 +1,19 @@
 -- What is given out leaves its list.
-use Rattle.std.proofs.Common.{Vec, Global, ◌≡◌, ◌+◌, ◌<◌, ◌≤◌, ℕ, List, [], ◌∷◌, ◌++◌, length, map, refl, sym, ap, ◌∙◌, arith, subst, length-append, append-nil, Option, Some, None, Bool}
-use Rattle.std.specs.Prelude.{sum_by, All, IfSome, vec_len, vec_capacity}
-use Rattle.std.specs.Option.{option_to_list}
+use Rattle.std.proofs.Common.{Vec, Global, ◌≡◌, ◌+◌, ℕ, List, [], ◌∷◌, ◌++◌, length, map, refl, sym, ap, ◌∙◌, arith, subst, length-append, append-nil, Option, Some, None, Bool}
+use Rattle.std.specs.Prelude.{sum_by, All, IfSome, vec_capacity}
 use Rattle.std.proofs.lemmas.List.{map-append}
 use Rattle.std.proofs.lemmas.List.Elements.{All-pop}
 use Rattle.std.proofs.lemmas.List.Sums.{sum_by-append, sum_by_push}
-use Rattle.pfc_core.specs.Marks.{Mark, TicketKind, PinKind, Loses}
-use Rattle.pfc_read.specs.declared.segment.Segment.{Segment}
+use Rattle.pfc_core.specs.Marks.{Mark, TicketKind}
 use Rattle.pfc_read.specs.declared.segment.Hand.{Hand}
 use Rattle.pfc_read.specs.declared.segment.Hand.TheVariants as hand
 use Rattle.pfc_read.specs.declared.segment.Owed.{Owed}
 use Rattle.pfc_read.specs.declared.segment.Pending.{Pending}
 use Rattle.pfc_read.specs.declared.op.ReadOp.TheInside.{Inside}
-use Rattle.pfc_read.specs.OpView.{Given, Nothing, ToRun, ToFill, ToLook, ToEnd}
+use Rattle.pfc_read.specs.OpView.{Nothing}
 use Rattle.pfc_read.specs.Segments.{in_pending, in_owed, pin_in}
 use Rattle.pfc_read.specs.Steps.{IsTokenOf}
-use Rattle.pfc_read.specs.Kept.{given_of, weight_in, AreOwn, IsFit, IsOwed, IsKept}
+use Rattle.pfc_read.specs.Kept.{given_of, IsFit, IsOwed, IsKept}
 use Rattle.pfc_world.specs.Files.{Files}
 use Rattle.pfc_read.proofs.Weights.{SameParts, counted-same, sound-same}
 

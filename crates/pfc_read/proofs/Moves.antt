@@ -1,6 +1,6 @@
 -- What a read keeps when the part that is given out comes, or won't come.
-use Rattle.std.proofs.Common.{Vec, Global, ◌≡◌, ◌+◌, ◌*◌, ◌<◌, ◌≤◌, ℕ, Bool, List, [], ◌∷◌, ◌++◌, length, refl, sym, ap, ◌∙◌, arith, subst, Option, Some, None, length-append}
-use Rattle.std.specs.Prelude.{sum_by, All, IfSome, vec_capacity}
+use Rattle.std.proofs.Common.{Vec, Global, ◌≡◌, ◌+◌, ◌*◌, ℕ, Bool, List, [], ◌∷◌, ◌++◌, length, refl, sym, ap, ◌∙◌, arith, subst, Option, Some, None, length-append}
+use Rattle.std.specs.Prelude.{sum_by, All, vec_capacity}
 use Rattle.std.proofs.lemmas.List.Elements.{All-push}
 use Rattle.std.proofs.lemmas.List.Sums.{sum_by_push}
 use Rattle.pfc_base.specs.declared.block.Part.{Part}
@@ -9,8 +9,7 @@ use Rattle.pfc_log.specs.declared.entry.Fell.TheVariants.{Fault, Memory}
 use Rattle.pfc_log.specs.declared.entry.Served.{Served}
 use Rattle.pfc_world.specs.Files.{Files, Holds}
 use Rattle.pfc_core.specs.Leave.{LeaveView, leave_of}
-use Rattle.pfc_core.specs.Marks.{Mark, TicketKind, PinKind}
-use Rattle.pfc_read.specs.declared.segment.Source.TheVariants as source
+use Rattle.pfc_core.specs.Marks.{Mark, PinKind}
 use Rattle.pfc_read.specs.declared.segment.Segment.{Segment}
 use Rattle.pfc_read.specs.declared.segment.Hand.{Hand}
 use Rattle.pfc_read.specs.declared.segment.Hand.TheVariants as hand
@@ -21,7 +20,7 @@ use Rattle.pfc_read.specs.declared.op.ReadOp.TheInside.{Inside}
 use Rattle.pfc_read.specs.OpView.{ToFill, ToLook, first_met}
 use Rattle.pfc_read.specs.Segments.{IsPlaced, covers, in_pending, in_owed, with_part, owed_segment}
 use Rattle.pfc_read.specs.Steps.{IsTokenOf, IsPinFor}
-use Rattle.pfc_read.specs.Kept.{given_of, weight_in, AreOwn, AreCounted, IsKept, IsFit, IsOwed}
+use Rattle.pfc_read.specs.Kept.{weight_in, AreOwn, AreCounted, IsKept, IsFit, IsOwed}
 use Rattle.pfc_read.proofs.Weights.{SameParts, counted-same}
 use Rattle.pfc_read.proofs.Written.{IsWritten}
 use Rattle.pfc_read.proofs.Filled.{IsGiven, counted-filled, counted-lacking, counted-owed, sound-written, sound-filled, sound-lacking, met-some, met-memory}

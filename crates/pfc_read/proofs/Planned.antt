@@ -1,8 +1,8 @@
 -- What a plan begins with.
-use Rattle.std.proofs.Common.{◌≡◌, ◌==◌, ◌+◌, ◌-◌, ◌*◌, ◌<◌, ◌≤◌, ◌⊎◌, ℕ, Bool, List, [], ◌∷◌, ◌++◌, length, take, drop, map, min, length-append, length-drop, reverse, refl, sym, ap, ◌∙◌, arith, subst, get_or, Option, Some, None, append-nil, inl, inr, eq-eqb}
+use Rattle.std.proofs.Common.{◌≡◌, ◌+◌, ◌-◌, ◌*◌, ◌<◌, ◌≤◌, ◌⊎◌, ℕ, Bool, List, [], ◌∷◌, ◌++◌, length, take, drop, map, min, length-append, length-drop, reverse, refl, sym, ap, ◌∙◌, arith, subst, Option, Some, None, inl, inr, eq-eqb}
 use Rattle.std.specs.Prelude.{sum_by, All}
-use Rattle.std.proofs.lemmas.List.{nil_from_length, length-reverse, get_or-reverse, length-map, map-append}
-use Rattle.std.proofs.lemmas.List.Elements.{All-nil, All-head, All-tail, All-weaker, All-take}
+use Rattle.std.proofs.lemmas.List.{nil_from_length, length-reverse, get_or-reverse, length-map}
+use Rattle.std.proofs.lemmas.List.Elements.{All-nil, All-head, All-tail, All-weaker}
 use Rattle.std.proofs.lemmas.List.Sorted.{IsPermutation-reverse, sum_by-IsPermutation}
 use Rattle.std.proofs.lemmas.List.Sums.{sum_by-append, sum_by-take-le, sum_by-cons}
 use Rattle.std.proofs.Math.Seq.{take-length}
@@ -14,7 +14,7 @@ use Rattle.pfc_log.specs.declared.entry.Fell.TheVariants.{Fault, Memory}
 use Rattle.pfc_world.specs.Files.{Files, HasSize}
 use Rattle.pfc_span.specs.Tiling.{part_len, parts_of, Tiles, TileEach}
 use Rattle.pfc_core.specs.Calls.{Begins, IsOf}
-use Rattle.pfc_core.specs.Marks.{Kind, ReadingKind, TicketKind, PinKind, Mark}
+use Rattle.pfc_core.specs.Marks.{Kind, TicketKind, PinKind, Mark}
 use Rattle.pfc_core.specs.View.{CoreView}
 use Rattle.pfc_read.specs.declared.segment.Source.TheVariants as source
 use Rattle.pfc_read.specs.declared.segment.Segment.{Segment}
@@ -23,7 +23,7 @@ use Rattle.pfc_read.specs.declared.segment.Pending.{Pending}
 use Rattle.pfc_read.specs.Segments.{len_in, covers, len_from, in_pending, pin_in}
 use Rattle.pfc_read.specs.Draft.{IsAsked, AreAsked}
 use Rattle.pfc_read.specs.Steps.{IsTokenOf}
-use Rattle.pfc_read.specs.Kept.{AreOwn, AreCounted, IsSound, IsStaged, IsRoomy, IsFit}
+use Rattle.pfc_read.specs.Kept.{AreOwn, AreCounted, IsSound, IsStaged, IsFit}
 
 -- with one piece every part is its own
 parts_of-all : (placed : List (ℕ × Part)) → All (λ x. x.0 < 1) placed → parts_of 0 placed ≡ map (λ x. x.1) placed

@@ -1,7 +1,5 @@
 -- Parts that are still to be read, in another order.
-use Rattle.std.proofs.Common.{◌≡◌, ◌+◌, ◌<◌, ◌≤◌, ℕ, List, [], ◌∷◌, ◌++◌, length, map, refl, sym, ap, ◌∙◌, arith, length-append, Option, Some, None, IsTrue, Bool}
-use Rattle.std.specs.Prelude.{sum_by, slice_index}
-use Rattle.std.proofs.lemmas.List.Sums.{sum_by-append, sum_by_push}
+use Rattle.std.proofs.Common.{◌≡◌, ◌+◌, ◌≤◌, ℕ, List, length, sym, ◌∙◌, arith, Option, Bool}
 use Rattle.pfc_base.specs.declared.block.Piece.{Piece}
 use Rattle.pfc_log.specs.declared.entry.Fell.{Fell}
 use Rattle.pfc_log.specs.declared.entry.Served.{Served}
@@ -13,7 +11,7 @@ use Rattle.pfc_read.specs.declared.segment.Hand.{Hand}
 use Rattle.pfc_read.specs.declared.segment.Counts.{Counts}
 use Rattle.pfc_read.specs.declared.segment.Owed.{Owed}
 use Rattle.pfc_read.specs.declared.segment.Pending.{Pending}
-use Rattle.pfc_read.specs.Segments.{len_in, covers, len_from, in_pending}
+use Rattle.pfc_read.specs.Segments.{len_in, covers, len_from}
 use Rattle.pfc_read.specs.Kept.{weight_in, is_run, is_look, AreCounted, IsSound}
 
 -- the same parts, in whichever place each is

@@ -12,7 +12,6 @@ use Rattle.pfc_core.specs.Marks.{TicketKind, PinKind, Mark}
 use Rattle.pfc_core.specs.View.{CoreView}
 use Rattle.pfc_read.specs.declared.segment.Source.{Source}
 use Rattle.pfc_read.specs.declared.segment.Source.TheVariants as source
-use Rattle.pfc_read.specs.declared.segment.Segment.{Segment}
 use Rattle.pfc_read.specs.declared.segment.Pending.{Pending}
 use Rattle.pfc_read.specs.declared.draft.Draft.{Draft}
 use Rattle.pfc_read.specs.Segments.{IsPlaced, len_in, covers, len_from, in_pending, pin_in}

@@ -1,5 +1,5 @@
 -- What the fields of a read are.
-use Rattle.std.specs.Prelude.{◌≡◌, ◌<◌, ◌≤◌, ◌+◌, ◌-◌, ◌*◌, ◌⊎◌, min, ℕ, Bool, IsTrue, List, [], ◌++◌, length, map, sum_by, vec_len, vec_capacity, All, Option, Some, None, IfSome, slice_index}
+use Rattle.std.specs.Prelude.{◌≡◌, ◌<◌, ◌≤◌, ◌+◌, ◌-◌, ◌*◌, ◌⊎◌, min, ℕ, Bool, IsTrue, List, [], ◌++◌, length, map, sum_by, vec_capacity, All, Option, Some, None, IfSome, slice_index}
 use Rattle.pfc_log.specs.declared.entry.Fell.{Fell}
 use Rattle.pfc_log.specs.declared.entry.Fell.TheVariants.{Fault}
 use Rattle.pfc_log.specs.declared.entry.Served.{Served}

@@ -1,5 +1,5 @@
 -- The plan of a read.
-use Rattle.std.specs.Prelude.{◌≡◌, ◌+◌, ◌⊎◌, ◌==◌, ℕ, false, List, [], ◌∷◌, ◌++◌, length, Option, Some, None, sum_by}
+use Rattle.std.specs.Prelude.{◌≡◌, ◌+◌, ◌⊎◌, ◌==◌, ℕ, false, List, [], ◌∷◌, ◌++◌, length, Some, None, sum_by}
 use Rattle.pfc_base.specs.declared.block.Part.{Part}
 use Rattle.pfc_base.specs.declared.block.Piece.{Piece}
 use Rattle.pfc_log.specs.declared.entry.Fell.TheVariants.{Memory}

@@ -1,6 +1,5 @@
 -- Segments of a reply, weighed.
-use Rattle.std.specs.Prelude.{◌≡◌, ◌+◌, ◌*◌, ◌≤◌, ℕ, ◌&&◌, nat_le, nat_lt, if◌then◌else◌, List, map, Option, Some, None, sum_by}
-use Rattle.pfc_base.specs.declared.block.Part.{Part}
+use Rattle.std.specs.Prelude.{◌≡◌, ◌+◌, ◌*◌, ◌≤◌, ℕ, ◌&&◌, nat_le, nat_lt, if◌then◌else◌, Option, Some, None}
 use Rattle.pfc_base.specs.Block.{IsPartOf}
 use Rattle.pfc_log.specs.declared.entry.Served.{Served}
 use Rattle.pfc_core.specs.Marks.{Mark}

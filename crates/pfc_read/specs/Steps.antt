@@ -1,14 +1,13 @@
 -- What each call of a read does.
-use Rattle.std.specs.Prelude.{◌≡◌, ◌<◌, ◌+◌, ◌⊎◌, ℕ, List, [], sum_by}
+use Rattle.std.specs.Prelude.{◌≡◌, ◌<◌, ◌+◌, ◌⊎◌, []}
 use Rattle.pfc_base.specs.declared.block.Part.{Part}
-use Rattle.pfc_log.specs.declared.entry.Fell.{Fell}
 use Rattle.pfc_core.specs.Leave.{LeaveView}
 use Rattle.pfc_core.specs.Marks.{Kind, TicketKind, PinKind, Mark, Loses}
 use Rattle.pfc_read.specs.declared.action.Action.{Action}
 use Rattle.pfc_read.specs.declared.action.Action.TheVariants.{Run, Direct, Look, Finish}
 use Rattle.pfc_read.specs.declared.action.Done.{Done}
 use Rattle.pfc_read.specs.declared.action.Done.TheVariants.{Landed, Failed}
-use Rattle.pfc_read.specs.OpView.{Given, Nothing, ToRun, ToFill, ToLook, ToEnd, OpView, first_met}
+use Rattle.pfc_read.specs.OpView.{Nothing, ToRun, ToFill, ToLook, ToEnd, OpView, first_met}
 
 -- a token of this kind for the client and the file of a reading
 pub record IsTokenOf (reading : Mark) (kind : Kind) (m : Mark) : Type 0 where

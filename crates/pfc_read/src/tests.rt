@@ -104,6 +104,23 @@ fn end(rt: &impl Abort, alloc: Global, core: &mut Core, line: &mut RowLine, mut 
     panic!(rt; "the read goes on")
 }
 
+/// A read of client 1 to its end.
+fn read(
+    rt: &impl Abort,
+    alloc: Global,
+    core: &mut Core,
+    line: &mut RowLine,
+    piece: Piece,
+) -> Result<Answer, Fail>
+    requires { piece.len ≤ 16777216 }
+{
+    if core.block_size() < 4096 {
+        return Err(Fail::new("small blocks"));
+    }
+    let op = ReadOp::plan(alloc, core, 1, piece)?;
+    Ok(end(rt, alloc, core, line, op))
+}
+
 /// A read of client 1 on a fresh core, with the calls of its line that fail.
 struct Case {
     shows: &'static str,
@@ -172,8 +189,7 @@ fn one_client_reads(rt: HostRuntime) -> Result<(), Fail> {
     for case in CASES {
         let mut line = line_of(alloc, case.fails)?;
         let mut core = core_of(alloc, &mut line)?;
-        let op = ReadOp::plan(alloc, &mut core, 1, case.piece)?;
-        let answer = end(&rt, alloc, &mut core, &mut line, op);
+        let answer = read(&rt, alloc, &mut core, &mut line, case.piece)?;
         assert!(rt; is_wanted(case, &answer), "{}", case.shows);
     }
     Ok(())
@@ -238,8 +254,7 @@ fn a_block_in_memory_is_hit(rt: HostRuntime) -> Result<(), Fail> {
     let mut core = core_of(alloc, &mut line)?;
     let piece = Piece { off: 4096, len: 2 };
     for wanted in [0u64, 2] {
-        let op = ReadOp::plan(alloc, &mut core, 1, piece)?;
-        let answer = end(&rt, alloc, &mut core, &mut line, op);
+        let answer = read(&rt, alloc, &mut core, &mut line, piece)?;
         let Answer::Bytes { bytes, served } = answer else {
             return Err(Fail::new("no data"));
         };

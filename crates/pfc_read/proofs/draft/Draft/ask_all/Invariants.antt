@@ -1,8 +1,7 @@
-use Rattle.std.proofs.Common.{◌≡◌, ◌+◌, ◌≤◌, ℕ, length, map, sum_by, take}
+use Rattle.std.proofs.Common.{◌≡◌, ◌≤◌, length, map, sum_by, take}
 use Rattle.std.specs.Prelude.{vec_capacity}
 use Rattle.pfc_span.specs.Tiling.{part_len}
 use Rattle.pfc_read.specs.Draft.{AreAsked}
-use Rattle.pfc_read.proofs.Decided.{decided}
 use Rattle.pfc_read.proofs.draft.Draft.ask_all.Given as goal
 
 abbrev pub invariant-loop-part : goal.invariant-loop-part

@@ -1,11 +1,10 @@
-use Rattle.std.proofs.Common.{◌≡◌, ◌+◌, ◌*◌, ◌-◌, ◌≤◌, ◌∙◌, ℕ, List, length, refl, sym, ap, arith, subst}
+use Rattle.std.proofs.Common.{◌≡◌, ◌+◌, ◌*◌, ◌∙◌, length, sym, ap, subst}
 use Rattle.pfc_base.specs.declared.block.Part.{Part}
 use Rattle.pfc_world.specs.Files.{Holds}
 use Rattle.pfc_core.specs.Marks.{Mark}
-use Rattle.pfc_read.specs.declared.segment.Hand.TheVariants as hand
-use Rattle.pfc_read.specs.OpView.{OpView, Given, ToFill}
-use Rattle.pfc_read.specs.Kept.{given_of, IsKept}
-use Rattle.pfc_read.proofs.Written.{IsWritten, part-long, written-part}
+use Rattle.pfc_read.specs.OpView.{OpView, ToFill}
+use Rattle.pfc_read.specs.Kept.{given_of}
+use Rattle.pfc_read.proofs.Written.{part-long, written-part}
 use Rattle.pfc_read.proofs.Moves.{kept-came, kept-fault, placed-leave, same-fill}
 use Rattle.pfc_read.proofs.op.ReadOp.direct.Goals as goal
 

@@ -1,9 +1,7 @@
-use Rattle.std.proofs.Common.{◌≡◌, ◌<◌, ◌∙◌, refl, sym, ap, subst, Some, None}
-use Rattle.pfc_log.specs.declared.entry.Fell.TheVariants.{Fault, Memory}
-use Rattle.pfc_core.specs.Marks.{Mark, PinKind}
+use Rattle.std.proofs.Common.{◌≡◌, ◌∙◌, sym, ap, subst, Some, None}
 use Rattle.pfc_read.specs.OpView.{OpView, ToEnd}
-use Rattle.pfc_read.specs.Ends.{IsData, GivesBack, EndsRead}
-use Rattle.pfc_read.specs.Kept.{given_of, view_of}
+use Rattle.pfc_read.specs.Ends.{IsData, EndsRead}
+use Rattle.pfc_read.specs.Kept.{given_of}
 use Rattle.pfc_read.proofs.Ended.{data-of, ends-op}
 use Rattle.pfc_read.proofs.op.ReadOp.finish.Goals as goal
 

@@ -1,13 +1,11 @@
-use Rattle.std.proofs.Common.{◌≡◌, ◌+◌, ◌*◌, ◌-◌, ◌≤◌, ◌∙◌, ℕ, List, length, refl, sym, ap, arith, subst}
+use Rattle.std.proofs.Common.{◌≡◌, ◌+◌, ◌*◌, ◌∙◌, length, sym, ap, subst}
 use Rattle.pfc_base.specs.declared.block.Part.{Part}
 use Rattle.pfc_world.specs.Files.{Holds}
-use Rattle.pfc_core.specs.Leave.{LeaveView, leave_of}
-use Rattle.pfc_core.specs.Marks.{Mark, PinKind}
-use Rattle.pfc_read.specs.declared.segment.Hand.TheVariants as hand
+use Rattle.pfc_core.specs.Leave.{leave_of}
 use Rattle.pfc_read.specs.OpView.{OpView, ToLook}
-use Rattle.pfc_read.specs.Steps.{IsTokenOf, IsPinFor}
+use Rattle.pfc_read.specs.Steps.{IsPinFor}
 use Rattle.pfc_read.specs.Kept.{given_of}
-use Rattle.pfc_read.proofs.Written.{IsWritten, part-long, written-part}
+use Rattle.pfc_read.proofs.Written.{part-long, written-part}
 use Rattle.pfc_read.proofs.Moves.{kept-flying, kept-ready, kept-own, kept-owes, placed-pin, same-look}
 use Rattle.pfc_read.proofs.op.ReadOp.look.Goals as goal
 

@@ -1,6 +1,5 @@
-use Rattle.std.proofs.Common.{◌≡◌, ◌+◌, ◌∙◌, ℕ, List, [], ◌∷◌, ◌++◌, length, refl, sym, ap, arith, subst, length-append, Option, Some, None, append-nil, inl, inr}
+use Rattle.std.proofs.Common.{◌≡◌, ◌+◌, ◌∙◌, [], ◌∷◌, length, refl, sym, ap, arith, subst, length-append, None, append-nil}
 use Rattle.std.proofs.lemmas.List.{nil_from_length}
-use Rattle.pfc_core.specs.Marks.{Mark}
 use Rattle.pfc_read.specs.declared.segment.Hand.TheVariants as hand
 use Rattle.pfc_read.specs.OpView.{OpView, Nothing}
 use Rattle.pfc_read.specs.Kept.{given_of, owed_count, IsKept}

@@ -1,5 +1,5 @@
-use Rattle.std.proofs.Common.{◌≡◌, ◌+◌, ◌-◌, ◌∙◌, ◌≤◌, ℕ, List, [], length, map, take, drop, min, reverse, refl, sym, ap, arith, subst, Option, None}
-use Rattle.std.specs.Prelude.{vec_capacity, sum_by}
+use Rattle.std.proofs.Common.{◌≡◌, ◌-◌, ◌∙◌, List, length, map, take, drop, min, reverse, refl, sym, ap, arith, subst, None}
+use Rattle.std.specs.Prelude.{sum_by}
 use Rattle.std.proofs.lemmas.List.{length-map, length-reverse, length-take, take-append-drop}
 use Rattle.pfc_base.specs.declared.block.Part.{Part}
 use Rattle.pfc_world.specs.Files.{HasSize}
@@ -11,7 +11,7 @@ use Rattle.pfc_read.specs.Plans.{with_asked}
 use Rattle.pfc_log.specs.declared.entry.Served.{Served}
 use Rattle.pfc_read.specs.declared.segment.Counts.{Counts}
 use Rattle.pfc_read.specs.Draft.{AsksAll}
-use Rattle.pfc_read.specs.Kept.{AreOwn, AreCounted, IsSound, IsStaged}
+use Rattle.pfc_read.specs.Kept.{AreOwn, AreCounted, IsSound}
 use Rattle.pfc_read.proofs.Planned.{IsPlanned, planned-own, planned-counted, planned-sound, planned-staged, sum_by-reverse, drop-all, pins-number, pins-again}
 use Rattle.pfc_read.proofs.op.ReadOp.plan.Goals as goal
 
