@@ -35,6 +35,29 @@ fn core_of(alloc: Global, instance: u64, line: &mut RowLine) -> Result<Core, Fai
     Ok(FileCore::new(alloc, instance, known, BLOCK_SIZE)?)
 }
 
+/// A core that two clients have opened, and a line.
+#[derive(Drop)]
+struct Scene {
+    core: Core,
+    line: RowLine,
+    first: Stay<RowWorld>,
+    second: Stay<RowWorld>,
+}
+
+/// Call 0 of the line asks for the size.
+fn scene_of(alloc: Global, fails: &[u64]) -> Result<Scene, Fail> {
+    let mut line = line_of(alloc, 1, fails)?;
+    let mut core = core_of(alloc, 5, &mut line)?;
+    let first = core.attach(1)?;
+    let second = core.attach(2)?;
+    Ok(Scene {
+        core,
+        line,
+        first,
+        second,
+    })
+}
+
 /// Two bytes of the first block.
 fn part_of(core: &Core) -> Option<Part>
     ensures { IfSome result (λ part. IsPartOf core.now.size core.now.block_size part) }
@@ -135,8 +158,8 @@ fn ready(core: &mut Core, pin: Pin<RowWorld>, part: Part) -> Result<(Pin<RowWorl
     }
 }
 
-/// Whether the flight was the client's own.
-fn is_own(core: &mut Core, pin: Pin<RowWorld>, part: Part) -> Result<bool, Fail>
+/// What a look answers, in a word. The pin of a flight that failed goes back.
+fn answer_of(core: &mut Core, pin: Pin<RowWorld>, part: Part) -> Result<&'static str, Fail>
     requires block { part.block ≡ pin.block }
     requires part { IsPartOf pin.size pin.block_size part }
 {
@@ -146,18 +169,18 @@ fn is_own(core: &mut Core, pin: Pin<RowWorld>, part: Part) -> Result<bool, Fail>
     }
     match core.look(pin, part, &mut bytes) {
         Look::Own(pin) => match core.unpin(pin) {
-            Ok(()) => Ok(true),
-            Err(Strayed { token: _, why: _ }) => Ok(false),
+            Ok(()) => Ok("own"),
+            Err(Strayed { token: _, why: _ }) => Err(Fail::new("a strayed pin")),
         },
-        Look::Ready(_pin) => Ok(false),
-        Look::Flying(_pin) => Ok(false),
+        Look::Ready(_pin) => Ok("ready"),
+        Look::Flying(_pin) => Ok("flying"),
         Look::Lost(leave) => {
             leave.discard();
-            Ok(false)
+            Ok("lost")
         }
         Look::Stray(leave) => {
             leave.discard();
-            Ok(false)
+            Ok("stray")
         }
     }
 }
@@ -273,59 +296,33 @@ fn read(alloc: Global, core: &mut Core, waiting: Waiting, n: u32) -> Result<[u8;
     Ok(bytes)
 }
 
-/// Both clients leave, and the core ends.
-fn leave(
+/// Both clients read by one flight.
+fn both_read(
     alloc: Global,
-    mut core: Core,
-    stays: (Stay<RowWorld>, Stay<RowWorld>),
-) -> Result<Vec<u8>, Fail> {
-    close(&mut core, stays.0)?;
-    close(&mut core, stays.1)?;
-    log_of(alloc, core)
+    core: &mut Core,
+    line: &mut RowLine,
+) -> Result<([u8; 2], [u8; 2]), Fail> {
+    let (first, second, landed) = share(alloc, core, line)?;
+    if !landed {
+        return Err(Fail::new("the call failed"));
+    }
+    let one = read(alloc, core, first, 1)?;
+    let other = read(alloc, core, second, 2)?;
+    Ok((one, other))
 }
 
-#[test]
-fn two_clients_share_one_flight(rt: HostRuntime) -> Result<(), Fail> {
-    let alloc = rt.alloc();
-    let mut line = line_of(alloc, 1, &[])?;
-    let mut core = core_of(alloc, 5, &mut line)?;
-    let stays = (core.attach(1)?, core.attach(2)?);
-    let (first, second, landed) = share(alloc, &mut core, &mut line)?;
-    assert!(rt; landed);
-    // Byte j of the file is j modulo 251, and the part begins at byte 7.
-    assert_eq!(rt;
-        read(alloc, &mut core, first, 1)?.as_slice(),
-        [7, 8].as_slice()
-    );
-    assert_eq!(rt;
-        read(alloc, &mut core, second, 2)?.as_slice(),
-        [7, 8].as_slice()
-    );
-    let log = leave(alloc, core, stays)?;
-    assert_eq!(rt;
-        log.as_slice(),
-        b"log /w stored -\nopened 1\nopened 2\nbegin 0 0 1\njoin 0 0 2\nlanded 0\ndropped 0 full 0\nserved 1 0 2 0\nserved 2 0 2 0\nleft 0\nclosed 1\nclosed 2\n".as_slice()
-    );
-    Ok(())
-}
-
-#[test]
-fn the_client_that_joined_a_failed_flight_reads_from_the_origin(
-    rt: HostRuntime,
-) -> Result<(), Fail> {
-    let alloc = rt.alloc();
-    // Call 0 asks for the size, and call 1 is the flight's.
-    let mut line = line_of(alloc, 1, &[1])?;
-    let mut core = core_of(alloc, 5, &mut line)?;
-    let stays = (core.attach(1)?, core.attach(2)?);
-    let (first, second, landed) = share(alloc, &mut core, &mut line)?;
-    assert!(rt; !landed);
+/// Their flight fails: what the first one's look answers, and what the second one reads from the origin.
+fn one_reads(
+    alloc: Global,
+    core: &mut Core,
+    line: &mut RowLine,
+) -> Result<(&'static str, [u8; 2]), Fail> {
+    let (first, second, _landed) = share(alloc, core, line)?;
     let mut bytes = [0u8; 2];
-    assert!(rt; is_own(&mut core, first.0, first.1)?);
-    read_lost(alloc, &mut core, second, &mut bytes)?;
-    assert_eq!(rt; bytes.as_slice(), [7, 8].as_slice());
+    let answer = answer_of(core, first.0, first.1)?;
+    read_lost(alloc, core, second, &mut bytes)?;
     serve(
-        &mut core,
+        core,
         &mut Vec::new(alloc),
         2,
         Served {
@@ -334,12 +331,75 @@ fn the_client_that_joined_a_failed_flight_reads_from_the_origin(
             bypassed: 2,
         },
     )?;
-    let log = leave(alloc, core, stays)?;
+    Ok((answer, bytes))
+}
+
+/// Both clients leave, and the core ends.
+fn leave(alloc: Global, scene: Scene) -> Result<Vec<u8>, Fail> {
+    let Scene {
+        mut core,
+        line: _,
+        first,
+        second,
+    } = scene;
+    close(&mut core, first)?;
+    close(&mut core, second)?;
+    log_of(alloc, core)
+}
+
+#[test]
+fn two_clients_share_one_flight(rt: HostRuntime) -> Result<(), Fail> {
+    let alloc = rt.alloc();
+    let mut scene = scene_of(alloc, &[])?;
+    let bytes = both_read(alloc, &mut scene.core, &mut scene.line)?;
+    // Byte j of the file is j modulo 251, and the part begins at byte 7.
+    assert_eq!(rt; bytes.0.as_slice(), [7, 8].as_slice());
+    assert_eq!(rt; bytes.1.as_slice(), [7, 8].as_slice());
+    let log = leave(alloc, scene)?;
+    assert_eq!(rt;
+        log.as_slice(),
+        b"log /w stored -\nopened 1\nopened 2\nbegin 0 0 1\njoin 0 0 2\nlanded 0\ndropped 0 full 0\nserved 1 0 2 0\nserved 2 0 2 0\nleft 0\nclosed 1\nclosed 2\n".as_slice()
+    );
+    Ok(())
+}
+
+#[test]
+fn who_joined_a_failed_flight_reads_from_the_origin(rt: HostRuntime) -> Result<(), Fail> {
+    let alloc = rt.alloc();
+    let mut scene = scene_of(alloc, &[1])?;
+    let (answer, bytes) = one_reads(alloc, &mut scene.core, &mut scene.line)?;
+    assert_eq!(rt; answer, "own");
+    assert_eq!(rt; bytes.as_slice(), [7, 8].as_slice());
+    let log = leave(alloc, scene)?;
     assert_eq!(rt;
         log.as_slice(),
         b"log /w stored -\nopened 1\nopened 2\nbegin 0 0 1\njoin 0 0 2\nfailed 0 fault\ndirect 0 2 lost 0\nserved 2 0 0 2\nclosed 1\nclosed 2\n".as_slice()
     );
     Ok(())
+}
+
+/// How another core takes a stay, which comes back.
+fn stray_stay(core: &mut Core, other: &mut Core) -> Result<Stranger, Fail> {
+    let stay = core.attach(1)?;
+    match other.detach(stay) {
+        Ok(()) => Err(Fail::new("a stay of another core")),
+        Err(Strayed { token, why }) => {
+            close(core, token)?;
+            Ok(why)
+        }
+    }
+}
+
+/// How another core takes a ticket, which comes back, and a pin.
+fn stray_flight(core: &mut Core, other: &mut Core) -> Result<(Stranger, &'static str), Fail> {
+    let (ticket, pin, part) = begin(core, 1)?;
+    match other.fail(ticket, Fell::Memory) {
+        Ok(()) => Err(Fail::new("a ticket of another core")),
+        Err(Strayed { token, why }) => {
+            token.discard();
+            Ok((why, answer_of(other, pin, part)?))
+        }
+    }
 }
 
 #[test]
@@ -348,7 +408,6 @@ fn strays_come_back(rt: HostRuntime) -> Result<(), Fail> {
     let mut line = line_of(alloc, 1, &[])?;
     let mut core = core_of(alloc, 5, &mut line)?;
     let mut other = core_of(alloc, 6, &mut line)?;
-    let stay = core.attach(1)?;
     let strayed = Stranger {
         token: Mark {
             instance: 5,
@@ -356,35 +415,10 @@ fn strays_come_back(rt: HostRuntime) -> Result<(), Fail> {
         },
         instance: 6,
     };
-    let stay = match other.detach(stay) {
-        Ok(()) => return Err(Fail::new("a stay of another core")),
-        Err(Strayed { token, why }) => {
-            assert_eq!(rt; why, strayed);
-            token
-        }
-    };
-    close(&mut core, stay)?;
-    let (ticket, pin, part) = begin(&mut core, 1)?;
-    // The other core has no flight, and hands the ticket back.
-    let why = match other.fail(ticket, Fell::Memory) {
-        Ok(()) => return Err(Fail::new("a ticket of another core")),
-        Err(Strayed { token, why }) => {
-            token.discard();
-            why
-        }
-    };
+    assert_eq!(rt; stray_stay(&mut core, &mut other)?, strayed);
+    let (why, answer) = stray_flight(&mut core, &mut other)?;
     assert_eq!(rt; why, strayed);
-    let mut bytes = [0u8; 2];
-    match other.look(pin, part, &mut bytes) {
-        Look::Stray(leave) => leave.discard(),
-        Look::Lost(leave) => {
-            leave.discard();
-            return Err(Fail::new("a pin of another core"));
-        }
-        Look::Flying(_pin) => return Err(Fail::new("a pin of another core")),
-        Look::Ready(_pin) => return Err(Fail::new("a pin of another core")),
-        Look::Own(_pin) => return Err(Fail::new("a pin of another core")),
-    }
+    assert_eq!(rt; answer, "stray");
     assert!(rt; other.quiet());
     assert!(rt; !core.quiet());
     Ok(())
