@@ -1,5 +1,5 @@
 -- Which reports are caused: what may be reported of a schedule, where the counts of the clients' links were these and are those.
-use Rattle.std.specs.Prelude.{◌≡◌, ◌≢◌, ℕ, ◌+◌, ◌*◌, ◌<◌, ◌≤◌, Bool, true, false, List, [], length, map, zip, All, AllPairs, sum_by, count_by, Result, Ok}
+use Rattle.std.specs.Prelude.{◌≡◌, ◌≢◌, ℕ, ◌+◌, ◌*◌, ◌<◌, ◌≤◌, Bool, false, List, [], length, map, All, AllPairs, sum_by}
 use Rattle.pfc_base.specs.BlockSet.{is_member}
 use Rattle.pfc_world.specs.Files.{Files}
 use Rattle.pfc_world.specs.Counts.{RoseBy, last_count}

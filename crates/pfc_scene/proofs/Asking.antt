@@ -1,5 +1,5 @@
 -- A line more that a client is asked.
-use Rattle.std.proofs.Common.{◌≡◌, ◌≢◌, ℕ, zero, suc, ◌+◌, ◌<◌, List, [], ◌∷◌, ◌++◌, length, map, get_or, set, refl, sym, ap, ◌∙◌, arith, Bool, true, false, if◌then◌else◌, ◌==◌, eq-eqb, ne_eqb}
+use Rattle.std.proofs.Common.{◌≡◌, ◌≢◌, ℕ, zero, suc, ◌<◌, List, [], ◌∷◌, ◌++◌, length, map, get_or, set, refl, sym, ap, ◌∙◌, arith, Bool, true, false, if◌then◌else◌, ◌==◌, eq-eqb, ne_eqb}
 use Rattle.pfc_actor.specs.Clients.{ClientView}
 use Rattle.pfc_scene.specs.Scenes.{AreUnique, who, asked_more}
 
@@ -26,7 +26,7 @@ pub one_asked : (n : ℕ) (line : List ℕ) (clients : List ClientView) (j : ℕ
     ((d : ClientView) → who a2 ≡ (n, (get_or clients j d).book.asked ++ line ∷ [])) → map who (set clients j a2) ≡ map (asked_more n line) (map who clients)
 one_asked n line clients j a2 unique lj number is =
     at_place n line clients j a2 lj
-        (λ x d lx far. ne_eqb (get_or clients x d).book.number n (λ e. far (unique x j d lx lj (e ∙ sym (number d)))))
-        (λ d. let found : ((get_or clients j d).book.number == n) ≡ true = eq-eqb _ _ (number d) in
-        is d ∙ ap (λ m. (m, (get_or clients j d).book.asked ++ line ∷ [])) (sym (number d))
-        ∙ sym (ap (λ (q : Bool). if q then ((get_or clients j d).book.number, (get_or clients j d).book.asked ++ line ∷ []) else ((get_or clients j d).book.number, (get_or clients j d).book.asked)) found))
+    (λ x d lx far. ne_eqb (get_or clients x d).book.number n (λ e. far (unique x j d lx lj (e ∙ sym (number d)))))
+    (λ d. let found : ((get_or clients j d).book.number == n) ≡ true = eq-eqb _ _ (number d) in
+    is d ∙ ap (λ m. (m, (get_or clients j d).book.asked ++ line ∷ [])) (sym (number d))
+    ∙ sym (ap (λ (q : Bool). if q then ((get_or clients j d).book.number, (get_or clients j d).book.asked ++ line ∷ []) else ((get_or clients j d).book.number, (get_or clients j d).book.asked)) found))

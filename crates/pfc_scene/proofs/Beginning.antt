@@ -1,6 +1,6 @@
 -- The clients that a plan asks anything, from their books and links.
-use Rattle.std.proofs.Common.{◌≡◌, ℕ, zero, suc, cond, ◌+◌, ◌-◌, ◌<◌, ◌≤◌, List, [], ◌∷◌, ◌++◌, length, map, get_or, reverse, refl, sym, ap, ◌∙◌, arith, Bool, true, false, subst, if◌then◌else◌, inl, inr, ⊎_elim}
-use Rattle.std.specs.Prelude.{All, AllPairs, filter, slice_index_or, Option, Some, None, replicate}
+use Rattle.std.proofs.Common.{◌≡◌, ℕ, suc, cond, ◌+◌, ◌-◌, ◌<◌, ◌≤◌, List, [], ◌∷◌, ◌++◌, length, map, get_or, reverse, refl, sym, ap, ◌∙◌, arith, Bool, true, false, subst, if◌then◌else◌, ⊎_elim}
+use Rattle.std.specs.Prelude.{All, AllPairs, filter}
 use Rattle.std.specs.List.{range_with_len}
 use Rattle.std.proofs.lemmas.List.{map-append, map-id, reverse-append, reverse-reverse, get_or-reverse, length-reverse, length-map, length_push, get_or_append_left, append_assoc}
 use Rattle.std.proofs.lemmas.List.Elements.{filter-append}
@@ -12,7 +12,7 @@ use Rattle.pfc_report.specs.Spent.{Rows, rows_of}
 use Rattle.pfc_actor.specs.Books.{BookView}
 use Rattle.pfc_actor.specs.Clients.{ClientView, IsFresh}
 use Rattle.pfc_scene.specs.Scenes.{AreUnique, who, number_of}
-use Rattle.pfc_scene.specs.Ends.{all_asked, asked_by, fresh_book}
+use Rattle.pfc_scene.specs.Ends.{all_asked}
 use Rattle.pfc_scene.proofs.Scenes.{below_or}
 use Rattle.pfc_scene.proofs.Reports.{at_map}
 
@@ -114,7 +114,7 @@ pub rows_pop : {L B : Type 0} (number calls faults : L → ℕ) (num : B → ℕ
     rows_of number calls faults links ≡ map (λ b. (num b, 0, 0)) books → rows_of number calls faults l2 ≡ map (λ b. (num b, 0, 0)) b2
 rows_pop number calls faults num links l2 link books b2 book le be is =
     (last_same (rows_of number calls faults l2) (map (λ b. (num b, 0, 0)) b2) (number link, calls link, faults link) (num book, 0, 0)
-        (sym (map-append (λ l. (number l, calls l, faults l)) l2 (link ∷ [])) ∙ ap (rows_of number calls faults) (sym le) ∙ is ∙ ap (map (λ b. (num b, 0, 0))) be ∙ map-append (λ b. (num b, 0, 0)) b2 (book ∷ []))).0
+    (sym (map-append (λ l. (number l, calls l, faults l)) l2 (link ∷ [])) ∙ ap (rows_of number calls faults) (sym le) ∙ is ∙ ap (map (λ b. (num b, 0, 0))) be ∙ map-append (λ b. (num b, 0, 0)) b2 (book ∷ []))).0
 
 pub all_front : {X : Type 0} (P : X → Type 0) (xs ys : List X) (x : X) → xs ≡ ys ++ x ∷ [] → All P xs → All P ys
 all_front P xs ys x e h k d l =
@@ -125,7 +125,7 @@ pub numbers_pop : {B : Type 0} (num : B → ℕ) (clients after : List ClientVie
     map number_of clients ++ reverse (map num books) ≡ whole → map number_of after ++ reverse (map num b2) ≡ whole
 numbers_pop num clients after a books b2 book whole ae be one is =
     let turned : reverse (map num books) ≡ num book ∷ reverse (map num b2) =
-        ap (λ l. reverse (map num l)) be ∙ ap reverse (map-append num b2 (book ∷ [])) ∙ reverse-append (map num b2) (num book ∷ []) in
+    ap (λ l. reverse (map num l)) be ∙ ap reverse (map-append num b2 (book ∷ [])) ∙ reverse-append (map num b2) (num book ∷ []) in
     ap (λ l. map number_of l ++ reverse (map num b2)) ae ∙ ap (λ l. l ++ reverse (map num b2)) (map-append number_of clients (a ∷ []))
     ∙ append_assoc (map number_of clients) (number_of a ∷ []) (reverse (map num b2)) ∙ ap (λ n. map number_of clients ++ n ∷ reverse (map num b2)) one
     ∙ ap (λ l. map number_of clients ++ l) (sym turned) ∙ is

@@ -1,19 +1,18 @@
 -- The report of a scene at its end.
-use Rattle.std.proofs.Common.{◌≡◌, ◌≢◌, ℕ, zero, suc, ◌+◌, ◌*◌, ◌<◌, ◌≤◌, List, [], ◌∷◌, ◌++◌, length, map, get_or, sum_by, refl, subst, sym, ap, ◌∙◌, arith, Bool, true, false, if◌then◌else◌, ◌==◌, ne_eqb, eq-eqb, inl, inr}
-use Rattle.std.specs.Prelude.{All, AllPairs, filter, nat_lt, replicate, count_by, Option, Some, None, slice_get, slice_index_or}
+use Rattle.std.proofs.Common.{◌≡◌, ℕ, zero, suc, ◌+◌, ◌<◌, List, [], ◌∷◌, ◌++◌, length, map, get_or, sum_by, refl, subst, sym, ap, ◌∙◌, arith, Bool, true, false, if◌then◌else◌, ◌==◌, ne_eqb, eq-eqb}
+use Rattle.std.specs.Prelude.{All, filter, replicate}
 use Rattle.std.specs.List.{range_with_len}
 use Rattle.std.proofs.lemmas.Bool.Decides.{nat_tests}
 use Rattle.std.proofs.lemmas.List.{length-map}
 use Rattle.std.proofs.lemmas.List.Sums.{sum_by-cons}
-use Rattle.std.proofs.lemmas.List.Elements.{All-nil, All-cons, All-from_get_or, All-get_or}
+use Rattle.std.proofs.lemmas.List.Elements.{All-nil, All-cons, All-get_or}
 use Rattle.std.proofs.lemmas.Simd.{map-map}
 use Rattle.pfc_log.proofs.Places.{by_bool}
 use Rattle.pfc_base.specs.BlockSet.{is_member}
 use Rattle.pfc_world.specs.Files.{Files}
-use Rattle.pfc_world.specs.Counts.{RoseBy, last_count}
-use Rattle.pfc_client.specs.declared.reply.Reply.{Reply}
-use Rattle.pfc_client.specs.Told.{stats, lost, opens, reads, bytes}
-use Rattle.pfc_client.specs.Permitted.{ArePermitted, is_fetch}
+use Rattle.pfc_world.specs.Counts.{RoseBy}
+use Rattle.pfc_client.specs.Told.{stats, lost}
+use Rattle.pfc_client.specs.Permitted.{ArePermitted}
 use Rattle.pfc_log.specs.declared.start.Start.{Start}
 use Rattle.pfc_log.specs.declared.start.Start.TheVariants.{Stored}
 use Rattle.pfc_log.specs.Lawful.{IsComplete}
@@ -22,14 +21,13 @@ use Rattle.pfc_core.specs.View.{CoreView}
 use Rattle.pfc_report.specs.declared.report.Told.{Told}
 use Rattle.pfc_report.specs.declared.report.Section.{Section}
 use Rattle.pfc_report.specs.Schedule.{Line, asked, asked_clients, is_asked}
-use Rattle.pfc_report.specs.Spent.{Rows, spent_by, nothing_spent}
-use Rattle.pfc_report.specs.Caused.{over, tally_in, StartsEmpty, FitBlocks, AreItsCalls, IsServed, AreItsFailures, IsUnasked, IsCausedReport}
-use Rattle.pfc_actor.specs.Books.{BookView}
+use Rattle.pfc_report.specs.Spent.{spent_by, nothing_spent}
+use Rattle.pfc_report.specs.Caused.{over, tally_in, StartsEmpty, FitBlocks, AreItsCalls, IsServed, AreItsFailures, IsCausedReport}
 use Rattle.pfc_actor.specs.StageView.{Rest}
-use Rattle.pfc_actor.specs.Stages.{shares, no_shares, owed, asking, failing}
+use Rattle.pfc_actor.specs.Stages.{shares, no_shares}
 use Rattle.pfc_actor.specs.Steps.{IsTallied, IsWithin}
 use Rattle.pfc_actor.specs.Clients.{ClientView, IsDone}
-use Rattle.pfc_scene.specs.Scenes.{IsScene, IsCore, IsActor, AreUnique, who, total}
+use Rattle.pfc_scene.specs.Scenes.{IsScene, AreUnique, who, total}
 use Rattle.pfc_scene.specs.Ends.{IsSection, AreSections, row_of, told_of, asked_by}
 use Rattle.pfc_scene.proofs.Scenes.{nobody, no_core}
 use Rattle.pfc_scene.proofs.Totals.{total_sum}
@@ -153,7 +151,7 @@ fit_all k n [] (c ∷ cores) s within = absurd s
 fit_all k n (x ∷ logs) [] s within = absurd s
 fit_all k n (x ∷ logs) (c ∷ cores) s within =
     let w = within 0 c (omega arith) in
-    let here : FitBlocks k (tally n c.entries) = record { hit = let m = w.hit in omega (arith, m); missed = let m = w.missed in omega (arith, m); bypassed = let m = w.bypassed in omega (arith, m); } in
+    let here : FitBlocks k (tally n c.entries) = record { hit = let m = w.hit in omega (arith, m); missed = let m = w.missed in omega (arith, m); bypassed = let m = w.bypassed in omega (arith, m) } in
     All-cons (λ (y : Section). FitBlocks k (tally_in n y)) x logs (subst (λ es. FitBlocks k (tally n es)) (sym s.0.entries_are) here) (fit_all k n logs cores s.1 (λ i d l. within (suc i) d (omega (arith, l))))
 
 pub record Ended (told : Bool) (files : Files) (lines : List Line) (logs : List Section) (cores : List CoreView) (a : ClientView) : Type 0 where
@@ -221,7 +219,7 @@ pub caused : (told : Bool) (files : Files) (k : ℕ) (lines : List Line) (client
     IsCausedReport told files k lines nothing_spent (spent_by (map row_of clients)) (record { clients = map told_of clients; logs = logs })
 caused told files k lines clients cores logs s done is sections =
     let spent : (j : ℕ) → j < length clients → spent_by (map row_of clients) (get_or clients j nobody).book.number ≡ ((get_or clients j nobody).line.calls, (get_or clients j nobody).line.faults) =
-        λ j l. row_at clients j nobody (λ i d m. (done i d m).number) s.numbers l in
+    λ j l. row_at clients j nobody (λ i d m. (done i d m).number) s.numbers l in
     let ended : (j : ℕ) → j < length clients → Ended told files lines logs cores (get_or clients j nobody) = λ j l. record {
       done = done j nobody l;
       agrees = agrees lines clients j nobody is l;

@@ -1,18 +1,17 @@
 -- What a step keeps of the scene.
-use Rattle.std.proofs.Common.{◌≡◌, ◌≢◌, ◌⊎◌, inl, inr, ⊎_elim, ℕ, zero, suc, ◌+◌, ◌*◌, ◌<◌, ◌≤◌, List, [], ◌∷◌, ◌++◌, length, get_or, set, sum_by, refl, subst, sym, ap, ◌∙◌, arith, Bool, true, false, if◌then◌else◌, ◌==◌, eq-eqb, ne_eqb}
-use Rattle.std.specs.Prelude.{◌&&◌, slice_index_or, replicate, None}
+use Rattle.std.proofs.Common.{◌≡◌, ◌≢◌, ◌⊎◌, inl, inr, ⊎_elim, ℕ, zero, suc, ◌+◌, ◌<◌, ◌≤◌, List, [], ◌∷◌, ◌++◌, length, get_or, set, sum_by, refl, subst, sym, ap, ◌∙◌, arith, Bool, true, false, ◌==◌, ne_eqb}
+use Rattle.std.specs.Prelude.{replicate, None}
 use Rattle.pfc_log.specs.declared.entry.Entry.{Entry}
 use Rattle.pfc_core.specs.LineView.{LineView}
 use Rattle.pfc_actor.specs.Books.{BookView, weight_in, open_weight}
 use Rattle.pfc_base.specs.Block.{count_of}
 use Rattle.pfc_log.specs.declared.start.Start.TheVariants.{Stored}
-use Rattle.std.specs.Cmp.Lexicographic.{pointwise}
 use mathlib.Core.Logic.{dite}
 use native.Mathlib.Decide.{ℕ_discrete}
 use Rattle.std.proofs.lemmas.List.{length-set, get_or-set_same, get_or-set_other, length_push, get_or_default, get_or_push, get_or_append_left}
 use Rattle.std.proofs.lemmas.List.Sums.{sum_by_push, sum_by-set, sum_by-cons, sum_by-le-sum_by, get_or-le-sum_by}
-use Rattle.pfc_log.specs.Tallies.{Tally, tally, together, nothing}
-use Rattle.pfc_core.specs.Marks.{Mark, same, sees, listed}
+use Rattle.pfc_log.specs.Tallies.{Tally, tally, nothing}
+use Rattle.pfc_core.specs.Marks.{Mark, same, sees}
 use Rattle.pfc_core.specs.Calls.{foreign}
 use Rattle.pfc_core.specs.View.{CoreView}
 use Rattle.pfc_actor.specs.StageView.{StageView, Rest}
@@ -138,7 +137,7 @@ stepper : (k : ℕ) (cores : List CoreView) (i : ℕ) (a a2 : ClientView) (c c2 
 stepper k cores i a a2 c c2 places li ec st was =
     let n = a.book.number in
     let tallied : IsTallied a2.book a2.line a2.stage (total n (set cores i c2)) =
-        subst (IsTallied a2.book a2.line a2.stage) (sym (total_set n cores i c2 li)) (st.tallied (rest_of n cores i) (subst (IsTallied a.book a.line a.stage) (total_was n cores i c li ec) was.tallied)) in
+    subst (IsTallied a2.book a2.line a2.stage) (sym (total_set n cores i c2 li)) (st.tallied (rest_of n cores i) (subst (IsTallied a.book a.line a.stage) (total_was n cores i c li ec) was.tallied)) in
     subst (λ (m : ℕ). IsActorAs m (set cores i c2) a2) (sym st.number) (record {
       tallied = tallied;
       within = λ x d lx. let long = length-set cores i c2 in let lx2 : x < length cores = omega (arith, lx, long) in
@@ -148,11 +147,11 @@ stepper k cores i a a2 c c2 places li ec st was =
           let old = subst (λ (v : CoreView). IsWithin (shares i a.stage) v.block_size (tally n v.entries)) (sym ec) (was.within i c li) in
           let now = st.within (subst (λ y. IsWithin (shares y a.stage) c.block_size (tally n c.entries)) (sym here.instance_is) old) in
           subst (λ (v : CoreView). IsWithin (shares x a2.stage) v.block_size (tally n v.entries)) (sym at)
-              (subst (λ y. IsWithin (shares x a2.stage) y (tally n c2.entries)) (sym (ap (λ (v : CoreView). v.block_size) st.home))
-              (subst (λ y. IsWithin (shares y a2.stage) c.block_size (tally n c2.entries)) (here.instance_is ∙ sym e) now)))
+          (subst (λ y. IsWithin (shares x a2.stage) y (tally n c2.entries)) (sym (ap (λ (v : CoreView). v.block_size) st.home))
+          (subst (λ y. IsWithin (shares y a2.stage) c.block_size (tally n c2.entries)) (here.instance_is ∙ sym e) now)))
           (λ far. let at = get_or-set_other cores i x c2 d far in
           subst (λ (v : CoreView). IsWithin (shares x a2.stage) v.block_size (tally n v.entries)) (sym at)
-              (less_within (get_or cores x d).block_size (shares x a.stage) (shares x a2.stage) (tally n (get_or cores x d).entries) (st.elsewhere x (ne_eqb x c.instance (λ e. far (e ∙ here.instance_is)))) (was.within x d lx2)));
+          (less_within (get_or cores x d).block_size (shares x a.stage) (shares x a2.stage) (tally n (get_or cores x d).entries) (st.elsewhere x (ne_eqb x c.instance (λ e. far (e ∙ here.instance_is)))) (was.within x d lx2)));
     })
 
 -- a client that doesn't step
@@ -165,8 +164,8 @@ other_actor cores i a c c2 li ec size same was = record {
       (λ e. let at = subst (λ y. get_or (set cores i c2) y d ≡ c2) (sym e) (get_or-set_same cores i c2 d li) in
       let old = subst (λ (v : CoreView). IsWithin (shares i a.stage) v.block_size (tally a.book.number v.entries)) (sym ec) (was.within i c li) in
       subst (λ (v : CoreView). IsWithin (shares x a.stage) v.block_size (tally a.book.number v.entries)) (sym at)
-          (subst (λ y. IsWithin (shares y a.stage) c2.block_size (tally a.book.number c2.entries)) (sym e)
-          (rw (size, same) old)))
+      (subst (λ y. IsWithin (shares y a.stage) c2.block_size (tally a.book.number c2.entries)) (sym e)
+      (rw (size, same) old)))
       (λ far. let at = get_or-set_other cores i x c2 d far in
       subst (λ (v : CoreView). IsWithin (shares x a.stage) v.block_size (tally a.book.number v.entries)) (sym at) (was.within x d lx2));
 }
@@ -192,16 +191,16 @@ stepped k clients cores j i a a2 c c2 s lj li ea ec st own = record {
       subst (IsActor (set cores i c2)) (sym at) (stepper k cores i a a2 c c2 s.places li ec st me))
       (λ far. let at = get_or-set_other clients j x a2 d far in
       let number : ((get_or clients x d).book.number == a.book.number) ≡ false =
-          ne_eqb (get_or clients x d).book.number a.book.number (λ e. far (s.numbers x j d lx2 lj (e ∙ ap (λ (v : ClientView). v.book.number) (ea ∙ get_or_default clients j a d lj)))) in
+      ne_eqb (get_or clients x d).book.number a.book.number (λ e. far (s.numbers x j d lx2 lj (e ∙ ap (λ (v : ClientView). v.book.number) (ea ∙ get_or_default clients j a d lj)))) in
       subst (IsActor (set cores i c2)) (sym at)
-          (other_actor cores i (get_or clients x d) c c2 li ec (ap (λ (v : CoreView). v.block_size) st.home) (st.others (get_or clients x d).book.number number) (s.actors x d lx2)));
+      (other_actor cores i (get_or clients x d) c c2 li ec (ap (λ (v : CoreView). v.block_size) st.home) (st.others (get_or clients x d).book.number number) (s.actors x d lx2)));
   numbers = one_number clients j a a2 s.numbers lj ea st.number;
   places = placed k cores i c c2 s.places li ec st.home own;
   paths = one_path cores i c c2 s.paths li ec (ap (λ (v : CoreView). v.path) st.home);
   strangers = λ n none.
       let long = length-set clients j a2 in
       let none2 : (x : ℕ) (d : ClientView) → x < length clients → (n == (get_or clients x d).book.number) ≡ false =
-          λ x d lx. subst (λ m. (n == m) ≡ false) (same_rows (λ (v : ClientView). v.book.number) clients j a a2 lj ea st.number x d lx) (none x d (omega (arith, lx, long))) in
+      λ x d lx. subst (λ m. (n == m) ≡ false) (same_rows (λ (v : ClientView). v.book.number) clients j a a2 lj ea st.number x d lx) (none x d (omega (arith, lx, long))) in
       let me = subst (λ (v : ClientView). (n == v.book.number) ≡ false) (sym ea) (none2 j a lj) in
       other_log cores i n c c2 li ec (st.others n me) (s.strangers n none2);
 }
@@ -229,7 +228,7 @@ moved k clients cores j a a2 s lj ea m = record {
 }
 
 pub own_moves : (a a2 : ClientView) → Own a.book a.line a.stage a2.book a2.line a2.stage → Moves a a2
-own_moves a a2 own = record { number = own.number; tokens = own.tokens; tallied = own.tallied; elsewhere = own.elsewhere; }
+own_moves a a2 own = record { number = own.number; tokens = own.tokens; tallied = own.tallied; elsewhere = own.elsewhere }
 
 -- ---- how a scene grows
 
@@ -240,7 +239,7 @@ no_share k clients cores j d e s lj =
     (shares_held (length cores) (get_or clients j d).book (get_or clients j d).stage)
 
 nothing_within : (k : ℕ) (s : Shares) → s ≡ no_shares → IsWithin s k nothing
-nothing_within k s none = rw none (record { hit = omega arith; missed = omega arith; bypassed = omega arith; })
+nothing_within k s none = rw none (record { hit = omega arith; missed = omega arith; bypassed = omega arith })
 
 pub at_end : {C : Type 0} (cs : List C) (c d : C) (x : ℕ) → x < length (cs ++ c ∷ []) → length cs ≤ x → get_or (cs ++ c ∷ []) x d ≡ c
 at_end cs c d x lx far = let long = length_push cs c in let e : x ≡ length cs = omega (arith, lx, long, far) in subst (λ y. get_or (cs ++ c ∷ []) y d ≡ c) (sym e) (get_or_push cs c d (length cs) refl)
@@ -259,8 +258,8 @@ made k clients cores c s core entries out other = record {
         (λ l. subst (λ (v : CoreView). IsWithin (shares x a.stage) v.block_size (tally a.book.number v.entries)) (sym (get_or_append_left cores (c ∷ []) f x l)) (was.within x f l))
         (λ far. let long = length_push cores c in let e : x ≡ length cores = omega (arith, lx, long, far) in
         subst (λ (v : CoreView). IsWithin (shares x a.stage) v.block_size (tally a.book.number v.entries)) (sym (at_end cores c f x lx far))
-            (subst (λ (es : List Entry). IsWithin (shares x a.stage) c.block_size (tally a.book.number es)) (sym entries)
-            (nothing_within c.block_size (shares x a.stage) (ap (λ y. shares y a.stage) e ∙ no_share k clients cores j d c s lj))))
+        (subst (λ (es : List Entry). IsWithin (shares x a.stage) c.block_size (tally a.book.number es)) (sym entries)
+        (nothing_within c.block_size (shares x a.stage) (ap (λ y. shares y a.stage) e ∙ no_share k clients cores j d c s lj))))
         (below_or x (length cores));
   };
   numbers = s.numbers;
@@ -300,7 +299,7 @@ fresh_actor n a f = record {
   tallied = subst (λ (b : BookView). IsTallied b a.line a.stage nothing) (sym f.book_is)
       (subst (λ (l : LineView). IsTallied (record { number = n; asked = []; replies = []; stays = replicate 16 None; shut = false }) l a.stage nothing) (sym f.line_is)
       (subst (λ (st : StageView). IsTallied (record { number = n; asked = []; replies = []; stays = replicate 16 None; shut = false }) (record { number = n; calls = 0; faults = 0 }) st nothing) (sym f.stage_is)
-      (record { opened = refl; served = refl; read = refl; least = λ low. omega arith; most = λ low. omega arith; faults = inl (omega arith); failed = omega arith; })));
+      (record { opened = refl; served = refl; read = refl; least = λ low. omega arith; most = λ low. omega arith; faults = inl (omega arith); failed = omega arith })));
   within = λ i d l. absurd (omega (arith, l));
 }
 

@@ -1,16 +1,13 @@
 -- Clients and cores together.
-use Rattle.std.specs.Prelude.{◌≡◌, ℕ, ◌+◌, ◌<◌, ◌≤◌, ◌==◌, ◌++◌, if◌then◌else◌, false, None, List, [], ◌∷◌, length, replicate, map, sum_by, slice_index_or}
+use Rattle.std.specs.Prelude.{◌≡◌, ℕ, ◌<◌, ◌≤◌, ◌==◌, ◌++◌, if◌then◌else◌, false, List, [], ◌∷◌, length, replicate, sum_by, slice_index_or}
 use Rattle.pfc_base.specs.Block.{count_of}
 use Rattle.pfc_log.specs.declared.start.Start.TheVariants.{Stored}
 use Rattle.pfc_log.specs.Tallies.{Tally, tally, together, nothing}
 use Rattle.pfc_core.specs.Marks.{Mark}
 use Rattle.pfc_core.specs.Calls.{foreign}
 use Rattle.pfc_core.specs.View.{CoreView}
-use Rattle.pfc_actor.specs.Books.{BookView}
-use Rattle.pfc_actor.specs.StageView.{StageView}
-use Rattle.pfc_actor.specs.StageView as st
-use Rattle.pfc_actor.specs.Stages.{weight, shares}
-use Rattle.pfc_actor.specs.Steps.{IsTallied, IsWithin, Shrinks}
+use Rattle.pfc_actor.specs.Stages.{shares}
+use Rattle.pfc_actor.specs.Steps.{IsTallied, IsWithin}
 use Rattle.pfc_actor.specs.Clients.{ClientView, holds}
 
 pub record SceneView : Type 0 where

@@ -1,4 +1,4 @@
-use Rattle.std.proofs.Common.{◌<◌, ℕ, length}
+use Rattle.std.proofs.Common.{◌<◌, ℕ}
 use Rattle.std.specs.Prelude.{slice_index_or}
 use Rattle.pfc_actor.specs.Clients.{ClientView, IsDone}
 use Rattle.pfc_scene.proofs.run.all_done.Given as goal

@@ -1,4 +1,4 @@
-use Rattle.std.proofs.Common.{◌≡◌, ◌++◌, ◌∷◌, ◌∙◌, [], length, ap, arith}
+use Rattle.std.proofs.Common.{◌∙◌, length, ap, arith}
 use Rattle.std.proofs.lemmas.List.{length_push}
 use Rattle.pfc_scene.proofs.Reports.{sections_push}
 use Rattle.pfc_scene.proofs.run.end_cores.Goals as goal
@@ -11,6 +11,6 @@ loop-core-preserved g c = record {
     entries_are = c.in-Ok.ensures.ok.1;
     complete = c.in-Ok.ensures.ok.3;
   }));
-  same_length = let long = ap length c.push_reserved.ensures.items in omega (arith, long, length_push c.loop-core.logs.items (record { path = c.copy-path.result; log = c.in-Ok.retired.log; }), length_push c.loop-core.yielded c.in-Some.core, c.loop-core.invariant.same_length);
+  same_length = let long = ap length c.push_reserved.ensures.items in omega (arith, long, length_push c.loop-core.logs.items (record { path = c.copy-path.result; log = c.in-Ok.retired.log }), length_push c.loop-core.yielded c.in-Some.core, c.loop-core.invariant.same_length);
   room = omega (arith, c.push_reserved.ensures.capacity, c.loop-core.invariant.room);
 }

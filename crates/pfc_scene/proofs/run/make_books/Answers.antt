@@ -1,4 +1,4 @@
-use Rattle.std.proofs.Common.{arith, refl}
+use Rattle.std.proofs.Common.{arith}
 use Rattle.pfc_report.specs.Schedule.{is_asked}
 use Rattle.pfc_scene.proofs.Beginning.{numbers_more, numbers_all}
 use Rattle.pfc_scene.proofs.run.make_books.Goals as goal

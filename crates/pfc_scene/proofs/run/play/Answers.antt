@@ -1,12 +1,11 @@
-use Rattle.std.proofs.Common.{◌≡◌, ◌<◌, ◌∙◌, refl, sym, rules, arith, List, map, length, ap}
-use Rattle.std.specs.Prelude.{slice_index_or}
+use Rattle.std.proofs.Common.{◌∙◌, refl, sym, map}
 use Rattle.pfc_report.specs.Plan.{line_of}
 use Rattle.pfc_scene.specs.Scenes.{who}
 use Rattle.pfc_scene.proofs.Playing.{none_yet, plays_step}
 use Rattle.pfc_scene.proofs.run.play.Goals as goal
 
 pub loop-step-init : goal.loop-step-init
-loop-step-init g c = record { asked = sym (none_yet _); numbers = refl; same_length = refl; block_size = refl; }
+loop-step-init g c = record { asked = sym (none_yet _); numbers = refl; same_length = refl; block_size = refl }
 
 pub loop-step-preserved : goal.loop-step-preserved
 loop-step-preserved g c = record {

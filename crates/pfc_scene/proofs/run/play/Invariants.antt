@@ -1,5 +1,4 @@
-use Rattle.std.proofs.Common.{◌≡◌, ◌+◌, ◌≤◌, length, take, map}
-use Rattle.pfc_report.specs.Plan.{line_of}
+use Rattle.std.proofs.Common.{◌≡◌, length, take, map}
 use Rattle.pfc_scene.specs.Scenes.{who, number_of}
 use Rattle.pfc_scene.specs.Ends.{all_asked}
 use Rattle.pfc_scene.proofs.run.play.Given as goal

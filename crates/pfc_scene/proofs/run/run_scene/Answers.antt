@@ -1,6 +1,5 @@
-use Rattle.std.proofs.Common.{◌≡◌, ◌∙◌, ◌≤◌, ℕ, List, length, map, reverse, rules, arith, ap, sym, subst}
-use Rattle.std.specs.Prelude.{slice_index_or, IfOk, vec_capacity, Result}
-use Rattle.std.proofs.lemmas.List.{length-map}
+use Rattle.std.proofs.Common.{◌≡◌, ◌∙◌, ◌≤◌, ℕ, List, length, map, reverse, rules, arith, ap, subst}
+use Rattle.std.specs.Prelude.{slice_index_or, IfOk, vec_capacity}
 use Rattle.pfc_report.specs.Schedule.{asked_clients}
 use Rattle.pfc_report.specs.Spent.{rows_of, spent_by, nothing_spent}
 use Rattle.pfc_report.specs.Caused.{IsCausedReport}
@@ -31,8 +30,8 @@ new-scene-requires-clause-fresh g c κs within j d low =
 pub new-scene-requires-clause-unique : goal.new-scene-requires-clause-unique
 new-scene-requires-clause-unique g c κs within =
     are_unique c.reverse.new.self.items (asked_clients c.args.plan.now)
-        (in_order c.make_clients.new.clients.items c.reverse.new.self.items (asked_clients c.args.plan.now) (c.make_clients.ensures.numbers ∙ ap reverse c.in-Ok.ensures.numbers) c.reverse.ensures.items)
-        (asked_rise c.args.plan.now)
+    (in_order c.make_clients.new.clients.items c.reverse.new.self.items (asked_clients c.args.plan.now) (c.make_clients.ensures.numbers ∙ ap reverse c.in-Ok.ensures.numbers) c.reverse.ensures.items)
+    (asked_rise c.args.plan.now)
 
 pub end-requires-clause-link_room : goal.end-requires-clause-link_room
 end-requires-clause-link_room g c κs within =

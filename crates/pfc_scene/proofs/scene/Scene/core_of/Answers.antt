@@ -1,11 +1,9 @@
-use Rattle.std.proofs.Common.{rules, arith, ◌≡◌, ◌<◌, ◌≤◌, ◌+◌, ◌++◌, ◌∷◌, [], ℕ, List, length, ap, sym, subst, ◌∙◌, map, refl, ◌==◌, false}
+use Rattle.std.proofs.Common.{rules, arith, ◌≡◌, ◌<◌, ◌++◌, ◌∷◌, [], ℕ, List, length, ap, sym, subst, ◌∙◌, refl}
 use Rattle.std.specs.Prelude.{slice_index_or}
-use Rattle.std.proofs.Math.Seq.{map-set_same}
 use Rattle.std.proofs.lemmas.List.{get_or_default, get_or_push, length_push}
 use Rattle.pfc_core.specs.View.{CoreView}
 use Rattle.pfc_actor.specs.Clients.{ClientView}
 use Rattle.pfc_actor.specs.Stages.{Here}
-use Rattle.pfc_scene.specs.Scenes.{SceneView, who, asked_more}
 use Rattle.pfc_scene.proofs.Scenes.{made}
 use Rattle.pfc_scene.proofs.scene.Scene.core_of.Goals as goal
 
@@ -27,4 +25,4 @@ returns-then-make_core-clause-here g c d e =
     let at : slice_index_or c.make_core.new.cores.items c.len-i.result e ≡ m.core = ap (λ (cs : List CoreView). slice_index_or cs c.len-i.result e) m.behind ∙ ap (λ i. slice_index_or (c.self.inside.cores.items ++ m.core ∷ []) i e) last ∙ get_or_push c.self.inside.cores.items m.core e (length c.self.inside.cores.items) refl in
     let same : c.index.result.now ≡ slice_index_or c.self.inside.clients.items c.args.j d = c.index.ensures ∙ get_or_default c.self.inside.clients.items c.args.j c.index.result.now d low in
     subst (λ (v : CoreView). Here (slice_index_or c.self.inside.clients.items c.args.j d).book (slice_index_or c.self.inside.clients.items c.args.j d).stage v) (sym at)
-        (subst (λ (a : ClientView). Here a.book a.stage m.core) same (c.in-Some.ensures m.core m.path_is))
+    (subst (λ (a : ClientView). Here a.book a.stage m.core) same (c.in-Some.ensures m.core m.path_is))

@@ -1,9 +1,7 @@
-use Rattle.std.proofs.Common.{◌≡◌, ◌∙◌, ◌++◌, ◌<◌, ℕ, List, length, refl, sym, ap, subst, rules, map, reverse}
+use Rattle.std.proofs.Common.{◌≡◌, ◌∙◌, ◌++◌, ◌<◌, ℕ, List, length, refl, sym, ap, subst, map, reverse}
 use Rattle.std.specs.Prelude.{slice_index_or}
 use Rattle.std.proofs.lemmas.List.{reverse-reverse}
-use Rattle.pfc_core.specs.View.{CoreView}
 use Rattle.pfc_report.specs.Spent.{Rows, rows_of, spent_by, nothing_spent}
-use Rattle.pfc_report.specs.Report.{ReportView}
 use Rattle.pfc_report.specs.declared.report.Told.{Told}
 use Rattle.pfc_report.specs.Caused.{IsCausedReport}
 use Rattle.pfc_actor.specs.Clients.{ClientView, IsDone}
@@ -16,16 +14,16 @@ pub returns-in-Ok-clause-caused : goal.returns-in-Ok-clause-caused
 returns-in-Ok-clause-caused g c lines asked =
     let twice : reverse c.reverse.new.self.items ≡ c.args.self.clients = ap reverse c.reverse.ensures.items ∙ reverse-reverse c.parts-clients.result.0.items ∙ c.parts-clients.ensures.clients in
     let rows : rows_of g.O.Origin.number g.O.Origin.calls g.O.Origin.faults c.end_clients.new.links.items ≡ map row_of c.args.self.clients =
-        c.end_clients.ensures.links ∙ ap (λ l. rows_of g.O.Origin.number g.O.Origin.calls g.O.Origin.faults l ++ map row_of (reverse c.reverse.new.self.items)) c.requires.links ∙ ap (map row_of) twice in
+    c.end_clients.ensures.links ∙ ap (λ l. rows_of g.O.Origin.number g.O.Origin.calls g.O.Origin.faults l ++ map row_of (reverse c.reverse.new.self.items)) c.requires.links ∙ ap (map row_of) twice in
     let told : c.end_clients.new.told.items ≡ map told_of c.args.self.clients =
-        c.end_clients.ensures.told ∙ ap (λ (l : List Told). l ++ map told_of (reverse c.reverse.new.self.items)) c.requires.told ∙ ap (map told_of) twice in
+    c.end_clients.ensures.told ∙ ap (λ (l : List Told). l ++ map told_of (reverse c.reverse.new.self.items)) c.requires.told ∙ ap (map told_of) twice in
     let done = subst (λ (cs : List ClientView). (j : ℕ) (d : ClientView) → j < length cs → IsDone g.W.World.told g.W.World.files (slice_index_or cs j d).book (slice_index_or cs j d).line (slice_index_or cs j d).stage)
-        (c.deref.ensures.value ∙ c.parts-clients.ensures.clients) (c.if-not-done.ensures refl) in
+    (c.deref.ensures.value ∙ c.parts-clients.ensures.clients) (c.if-not-done.ensures refl) in
     let sections = subst (AreSections c.in-Ok.logs.items) c.parts-clients.ensures.cores c.in-Ok.ensures in
     let all = caused g.W.World.told g.W.World.files c.args.self.block_size lines c.args.self.clients c.args.self.cores c.in-Ok.logs.items c.parts-clients.ensures.scene done asked sections in
     let report : c.new.result ≡ record { clients = map told_of c.args.self.clients; logs = c.in-Ok.logs.items } = c.new.ensures ∙ ap (λ (l : List Told). record { clients = l; logs = c.in-Ok.logs.items }) told in
     subst (λ (r : Rows). IsCausedReport g.W.World.told g.W.World.files c.args.self.block_size lines nothing_spent (spent_by r) c.new.result) (sym rows)
-        (subst (IsCausedReport g.W.World.told g.W.World.files c.args.self.block_size lines nothing_spent (spent_by (map row_of c.args.self.clients))) (sym report) all)
+    (subst (IsCausedReport g.W.World.told g.W.World.files c.args.self.block_size lines nothing_spent (spent_by (map row_of c.args.self.clients))) (sym report) all)
 
 pub returns-in-Err-clause-numbers : goal.returns-in-Err-clause-numbers
 returns-in-Err-clause-numbers g c =

@@ -1,9 +1,5 @@
-use Rattle.std.proofs.Common.{rules, arith, ◌≡◌, ◌<◌, ◌≤◌, ◌++◌, ◌∷◌, [], ℕ, List, length, ap, sym, subst, ◌∙◌, map, refl}
-use Rattle.std.specs.Prelude.{slice_index_or}
+use Rattle.std.proofs.Common.{rules, ap, ◌∙◌, map}
 use Rattle.std.proofs.Math.Seq.{map-set_same}
-use Rattle.pfc_core.specs.View.{CoreView}
-use Rattle.pfc_actor.specs.Clients.{ClientView}
-use Rattle.pfc_actor.specs.Stages.{Here}
 use Rattle.pfc_scene.specs.Scenes.{SceneView, who}
 use Rattle.pfc_scene.proofs.Scenes.{moved, own_moves}
 use Rattle.pfc_scene.proofs.scene.Scene.enter.Goals as goal
@@ -15,5 +11,5 @@ invariant_of-self g c =
 pub returns-clause-same : goal.returns-clause-same
 returns-clause-same g c =
     map-set_same who c.self.inside.clients.items c.args.j c.enter.new.self c.index_mut.result.now
-        (ap (λ n. (n, c.enter.new.self.book.asked)) c.enter.ensures.number ∙ ap (λ q. (c.index_mut.result.now.book.number, q)) c.enter.ensures.asked ∙ ap who c.index_mut.ensures.value)
+    (ap (λ n. (n, c.enter.new.self.book.asked)) c.enter.ensures.number ∙ ap (λ q. (c.index_mut.result.now.book.number, q)) c.enter.ensures.asked ∙ ap who c.index_mut.ensures.value)
     ∙ ap (λ (v : SceneView). map who v.clients) c.self.view_is

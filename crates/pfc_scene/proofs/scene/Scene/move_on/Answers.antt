@@ -1,11 +1,10 @@
-use Rattle.std.proofs.Common.{rules, arith, ◌≡◌, ◌<◌, ◌≤◌, ◌+◌, ◌++◌, ◌∷◌, [], ℕ, List, length, ap, sym, subst, ◌∙◌, map, refl, ◌==◌, false}
+use Rattle.std.proofs.Common.{rules, ◌≡◌, ◌<◌, length, ap, subst, ◌∙◌, map}
 use Rattle.std.specs.Prelude.{slice_index_or}
 use Rattle.std.proofs.Math.Seq.{map-set_same}
-use Rattle.std.proofs.lemmas.List.{get_or_default, length_push}
-use Rattle.pfc_core.specs.View.{CoreView}
+use Rattle.std.proofs.lemmas.List.{get_or_default}
 use Rattle.pfc_actor.specs.Clients.{ClientView}
 use Rattle.pfc_actor.specs.Stages.{Here}
-use Rattle.pfc_scene.specs.Scenes.{SceneView, who, asked_more}
+use Rattle.pfc_scene.specs.Scenes.{SceneView, who}
 use Rattle.pfc_scene.proofs.Scenes.{moved, own_moves, there, no_core}
 use Rattle.pfc_scene.proofs.scene.Scene.move_on.Goals as goal
 
@@ -16,7 +15,7 @@ invariant_of-self g c =
 pub returns-in-Alone-clause-same : goal.returns-in-Alone-clause-same
 returns-in-Alone-clause-same g c =
     map-set_same who c.self.inside.clients.items c.args.j c.step_alone.new.self c.index_mut.result.now
-        (ap (λ n. (n, c.step_alone.new.self.book.asked)) c.step_alone.ensures.number ∙ ap (λ q. (c.index_mut.result.now.book.number, q)) c.step_alone.ensures.asked ∙ ap who c.index_mut.ensures.value)
+    (ap (λ n. (n, c.step_alone.new.self.book.asked)) c.step_alone.ensures.number ∙ ap (λ q. (c.index_mut.result.now.book.number, q)) c.step_alone.ensures.asked ∙ ap who c.index_mut.ensures.value)
     ∙ ap (λ (v : SceneView). map who v.clients) c.self.view_is
 
 pub step_at-requires-clause-i : goal.step_at-requires-clause-i
@@ -34,4 +33,4 @@ step_at-requires-clause-here g c κs within d e =
     let is = (c.self.invariant.places c.in-Core.i e low).instance_is in
     let same : c.index.result.now ≡ slice_index_or c.self.inside.clients.items c.args.j d = c.index.ensures ∙ get_or_default c.self.inside.clients.items c.args.j c.index.result.now d lj in
     subst (λ (v : SceneView). Here (slice_index_or v.clients c.args.j d).book (slice_index_or v.clients c.args.j d).stage (slice_index_or v.cores c.in-Core.i e)) c.self.view_is
-        (subst (λ (a : ClientView). Here a.book a.stage (slice_index_or c.self.inside.cores.items c.in-Core.i e)) same (c.in-Core.ensures.here (slice_index_or c.self.inside.cores.items c.in-Core.i e) is))
+    (subst (λ (a : ClientView). Here a.book a.stage (slice_index_or c.self.inside.cores.items c.in-Core.i e)) same (c.in-Core.ensures.here (slice_index_or c.self.inside.cores.items c.in-Core.i e) is))

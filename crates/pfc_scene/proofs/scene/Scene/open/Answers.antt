@@ -1,11 +1,6 @@
-use Rattle.std.proofs.Common.{rules, arith, ◌≡◌, ◌<◌, ◌≤◌, ◌+◌, ◌++◌, ◌∷◌, [], ℕ, List, length, ap, sym, subst, ◌∙◌, map, refl, ◌==◌, false}
-use Rattle.std.specs.Prelude.{slice_index_or}
+use Rattle.std.proofs.Common.{rules, ap, ◌∙◌, map}
 use Rattle.std.proofs.Math.Seq.{map-set_same}
-use Rattle.std.proofs.lemmas.List.{get_or_default, length_push}
-use Rattle.pfc_core.specs.View.{CoreView}
-use Rattle.pfc_actor.specs.Clients.{ClientView}
-use Rattle.pfc_actor.specs.Stages.{Here}
-use Rattle.pfc_scene.specs.Scenes.{SceneView, who, asked_more}
+use Rattle.pfc_scene.specs.Scenes.{SceneView, who}
 use Rattle.pfc_scene.proofs.Scenes.{moved, own_moves}
 use Rattle.pfc_scene.proofs.scene.Scene.open.Goals as goal
 
@@ -16,5 +11,5 @@ invariant_of-self g c =
 pub returns-in-None-clause-same : goal.returns-in-None-clause-same
 returns-in-None-clause-same g c =
     map-set_same who c.self.inside.clients.items c.args.j c.give_up.new.self c.index_mut.result.now
-        (ap (λ n. (n, c.give_up.new.self.book.asked)) c.give_up.ensures.number ∙ ap (λ q. (c.index_mut.result.now.book.number, q)) c.give_up.ensures.asked ∙ ap who c.index_mut.ensures.value)
+    (ap (λ n. (n, c.give_up.new.self.book.asked)) c.give_up.ensures.number ∙ ap (λ q. (c.index_mut.result.now.book.number, q)) c.give_up.ensures.asked ∙ ap who c.index_mut.ensures.value)
     ∙ ap (λ (v : SceneView). map who v.clients) c.self.view_is ∙ ap (map who) c.core_of.ensures.clients

@@ -1,4 +1,4 @@
-use Rattle.std.proofs.Common.{◌≡◌, ◌<◌, length, map}
+use Rattle.std.proofs.Common.{◌≡◌, length, map}
 use Rattle.pfc_scene.specs.Scenes.{who}
 use Rattle.pfc_scene.proofs.scene.Scene.shut_all.Given as goal
 
