@@ -16,7 +16,7 @@ use Rattle.pfc_actor.specs.Steps.{Own, Shrinks}
 use Rattle.pfc_actor.proofs.Tallied.{Answers, GoesOn, made, told, quiet}
 
 pub shrinks_same : (s : Shares) → Shrinks s s
-shrinks_same s = record { hits = omega arith; waits = omega arith; directs = omega arith; }
+shrinks_same s = record { hits = omega arith; waits = omega arith; directs = omega arith }
 
 -- a reply that tells of nothing in a log
 pub answers_none : (t : Tally) (reply : Reply) → is_size reply ≡ false → is_data reply ≡ false → bytes_in reply ≡ 0 → Answers reply t t
@@ -40,7 +40,7 @@ own_answered b b2 l l2 st said reply calls light unowed whole lone e next size b
   tokens = λ w. let same = ap (λ v. open_weight w v.stays) e in let l = light w in omega (arith, same, l);
   tallied = λ t old.
       told b b2 l l2 st Rest t t said reply (ap (λ v. v.asked) e) (ap (λ v. v.replies) e) next (answers_none t reply size bare none)
-          (made l l2 st Rest t t (stats_at said reply) calls called (omega (arith, stat, unowed)) refl) (rose_later t.faults l.faults l2.faults old.faults faults) (omega (arith, whole)) old;
+      (made l l2 st Rest t t (stats_at said reply) calls called (omega (arith, stat, unowed)) refl) (rose_later t.faults l.faults l2.faults old.faults faults) (omega (arith, whole)) old;
   elsewhere = λ i. rw (lone i) (shrinks_same no_shares);
 }
 

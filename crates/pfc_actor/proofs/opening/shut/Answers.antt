@@ -18,4 +18,4 @@ unreachable-requires g c =
 pub returns-clause-step : goal.returns-clause-step
 returns-clause-step g c =
     shut_step _ _ _ _ _ c.in-Some-shut.stay c.in-Some-shut.ensures.mine.client_is c.in-Ok.ensures.ok c.in-Some-shut.ensures.weighs
-        (ap (λ (v : BookView). v.number) c.shut.ensures.rest) (ap (λ (v : BookView). v.asked) c.shut.ensures.rest) (ap (λ (v : BookView). v.replies) c.shut.ensures.rest)
+    (ap (λ (v : BookView). v.number) c.shut.ensures.rest) (ap (λ (v : BookView). v.asked) c.shut.ensures.rest) (ap (λ (v : BookView). v.replies) c.shut.ensures.rest)
