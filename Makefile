@@ -1,4 +1,4 @@
-# make demo: makes an origin folder with a file of some MiB, runs a schedule over it and shows the replies
+# make demo: makes an origin folder with a file of some MiB, runs a schedule of two clients over it, shows replies and log
 # make bin: builds the proved programs into bin/
 # make bench: prints what the hot paths cost on this machine, beside the same jobs in C
 

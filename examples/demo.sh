@@ -1,6 +1,7 @@
 #!/bin/sh
-# Runs one client over a real folder: an origin with a file of 8 MiB of random bytes, a site's configuration and a
-# schedule. Shows the schedule, the replies, and the same bytes as od sees them in the origin's file.
+# Runs two clients over a real folder: an origin with a file of 8 MiB of random bytes, a site's configuration and a
+# schedule in which both ask for the same block while it is in flight. Shows the schedule, the replies, the log of the file,
+# and the same bytes as od sees them in the origin's file.
 set -eu
 top=$(cd "$(dirname "$0")/.." && pwd)
 place=$(mktemp -d)
@@ -9,11 +10,18 @@ mkdir "$place/origin" "$place/origin/run7" "$place/cache"
 head -c 8388608 /dev/urandom > "$place/origin/run7/events.root"
 cp "$top/examples/xcache.cfg" "$place/xcache.cfg"
 cat > "$place/schedule" <<'SCHEDULE'
+# both open the file
 ask 1 open 0 /run7/events.root
+ask 2 open 3 /run7/events.root
+go 1 10
+go 2 10
+# the first begins to fetch a block, the second joins it, then both go on
 ask 1 read 0 0 16
-ask 1 read 0 1048570 24
+ask 2 read 3 8 24
+go 1
+go 2
 ask 1 read 0 8388600 100
-ask 1 open 1 /run7/missing.root
+ask 2 open 4 /run7/missing.root
 ask 1 close 0
 SCHEDULE
 cd "$place"
@@ -22,7 +30,7 @@ sed 's/^/    /' schedule
 echo "xcache_replay xcache.cfg origin cache 10g schedule"
 "$top/bin/xcache_replay" xcache.cfg origin cache 10g schedule | sed 's/^/    /'
 echo "The same bytes of the origin's file, by od:"
-for range in "0 16" "1048570 24" "8388600 8"; do
+for range in "0 16" "8 24" "8388600 8"; do
     set -- $range
     od -An -v -tx1 -j "$1" -N "$2" origin/run7/events.root | tr -d ' \n' | sed 's/^/    /'
     echo
