@@ -1,6 +1,6 @@
 -- A client that is asked one more line.
-use Rattle.std.proofs.Common.{◌≡◌, ℕ, zero, suc, ◌+◌, ◌≤◌, ◌<◌, List, [], ◌∷◌, ◌++◌, length, refl, sym, ap, ◌∙◌, subst, arith, Bool, true, false}
-use Rattle.std.specs.Prelude.{Option, Some, None, Result, Ok, slice_get}
+use Rattle.std.proofs.Common.{◌≡◌, ℕ, zero, suc, ◌+◌, ◌≤◌, ◌<◌, List, [], ◌∷◌, ◌++◌, length, refl, sym, ◌∙◌, arith, false}
+use Rattle.std.specs.Prelude.{Result, Ok, slice_get}
 use Rattle.pfc_log.specs.Tallies.{Tally}
 use Rattle.pfc_client.specs.declared.request.Request.{Request}
 use Rattle.pfc_client.specs.declared.request.Request.TheVariants as q
@@ -11,7 +11,7 @@ use Rattle.pfc_read.specs.OpView.{OpView, Given}
 use Rattle.pfc_actor.specs.Books.{BookView, IsNext}
 use Rattle.pfc_actor.specs.StageView.{StageView}
 use Rattle.pfc_actor.specs.StageView as st
-use Rattle.pfc_actor.specs.Stages.{AtWork, IsAsked, Opens, Reads, GoesOn, shares}
+use Rattle.pfc_actor.specs.Stages.{AtWork, IsAsked, GoesOn, shares}
 use Rattle.pfc_actor.specs.Steps.{IsTallied}
 use Rattle.pfc_actor.specs.Clients.{ClientView, IsClient, Moves}
 use Rattle.pfc_actor.proofs.Steps.{shrinks_same}
@@ -35,13 +35,13 @@ next_longer b line said next = record {
 }
 
 asked_longer : (b : BookView) (line : List ℕ) (request : Request) → IsAsked b request → IsAsked (longer b line) request
-asked_longer b line request asked = record { going = asked.going; next = next_longer b line (Ok request) asked.next; }
+asked_longer b line request asked = record { going = asked.going; next = next_longer b line (Ok request) asked.next }
 
 goes_longer : (b : BookView) (line : List ℕ) (op : OpView) (given : Given) → GoesOn b op given → GoesOn (longer b line) op given
 goes_longer b line op given goes = record {
   number = goes.number;
   stay = goes.stay;
-  reads = record { asked = asked_longer b line (q.Read goes.number op.piece) goes.reads.asked; is_open = goes.reads.is_open; short = goes.reads.short; };
+  reads = record { asked = asked_longer b line (q.Read goes.number op.piece) goes.reads.asked; is_open = goes.reads.is_open; short = goes.reads.short };
   path_is = goes.path_is;
   size_is = goes.size_is;
   client_is = goes.client_is;
@@ -51,10 +51,10 @@ goes_longer b line op given goes = record {
 -- the request at work is at work still
 work_longer : (b : BookView) (line : List ℕ) (stage : StageView) → b.shut ≡ false → AtWork b stage → AtWork (longer b line) stage
 work_longer b line st.Rest going work = λ more. going
-work_longer b line (st.Wanted wanted) going work = record { asked = asked_longer b line _ work.asked; free = work.free; }
-work_longer b line (st.Making wanted) going work = record { asked = asked_longer b line _ work.asked; free = work.free; }
-work_longer b line (st.Joining wanted) going work = record { asked = asked_longer b line _ work.asked; free = work.free; }
-work_longer b line (st.Planning number piece) going work = (work.0, record { asked = asked_longer b line _ work.1.asked; is_open = work.1.is_open; short = work.1.short; })
+work_longer b line (st.Wanted wanted) going work = record { asked = asked_longer b line _ work.asked; free = work.free }
+work_longer b line (st.Making wanted) going work = record { asked = asked_longer b line _ work.asked; free = work.free }
+work_longer b line (st.Joining wanted) going work = record { asked = asked_longer b line _ work.asked; free = work.free }
+work_longer b line (st.Planning number piece) going work = (work.0, record { asked = asked_longer b line _ work.1.asked; is_open = work.1.is_open; short = work.1.short })
 work_longer b line (st.Closing number) going work = (asked_longer b line _ work.0, work.1)
 work_longer b line st.Closed going work = work
 work_longer b line (st.Reading op) going work = goes_longer b line op _ work
@@ -66,7 +66,7 @@ work_longer b line (st.Looking op pin part) going work = (goes_longer b line op 
 work_longer b line (st.Ending op) going work = (goes_longer b line op _ work.0, work.1)
 
 pub client_longer : (b b2 : BookView) (l : LineView) (line : List ℕ) (stage : StageView) → b.shut ≡ false → b2 ≡ longer b line → IsClient b l stage → IsClient b2 l stage
-client_longer b b2 l line stage going same client = rw same (record { work = work_longer b line stage going client.work; caused = client.caused; number = client.number; })
+client_longer b b2 l line stage going same client = rw same (record { work = work_longer b line stage going client.work; caused = client.caused; number = client.number })
 
 tallied_longer : (b : BookView) (l : LineView) (line : List ℕ) (stage : StageView) (t : Tally) → length b.replies ≤ length b.asked → IsTallied b l stage t → IsTallied (longer b line) l stage t
 tallied_longer b l line stage t few old =
@@ -81,7 +81,7 @@ tallied_longer b l line stage t few old =
     }
 
 pub moves_same : (a a2 : ClientView) → a2 ≡ a → Moves a a2
-moves_same a a2 same = rw same (record { number = refl; tokens = λ w. refl; tallied = λ t old. old; elsewhere = λ i. shrinks_same (shares i a.stage); })
+moves_same a a2 same = rw same (record { number = refl; tokens = λ w. refl; tallied = λ t old. old; elsewhere = λ i. shrinks_same (shares i a.stage) })
 
 pub moves_longer : (a a2 : ClientView) (line : List ℕ) → length a.book.replies ≤ length a.book.asked → a2 ≡ record a { book = longer a.book line } → Moves a a2
 moves_longer a a2 line few same = rw same (record {

@@ -15,7 +15,7 @@ use Rattle.pfc_client.specs.Session.{place_at, is_free}
 use Rattle.pfc_client.specs.Permitted.{Permits, Walk, files_of, nothing_open}
 use Rattle.pfc_client.proofs.Walks.{walk-more}
 use Rattle.pfc_client.proofs.Permitting.{open-size, close-open}
-use Rattle.pfc_actor.specs.Books.{file_in, weight_in, open_weight, IsAnswered, IsBook, IsStay}
+use Rattle.pfc_actor.specs.Books.{file_in, weight_in, open_weight, IsBook, IsStay}
 
 -- a place that is put holds what was put, or what it held
 place_put : (kept : List (Option Mark)) (n i : ℕ) (o : Option Mark) → (place_at (slice_set kept n o) i ≡ o) ⊎ (place_at (slice_set kept n o) i ≡ place_at kept i)
@@ -36,7 +36,7 @@ nothing_files (suc n) = ap (λ l. None ∷ l) (nothing_files n)
 
 pub made : (told : Bool) (files : Files) (number capacity : ℕ) → IsBook told files number [] [] (replicate 16 None) false capacity
 made told files number capacity = record {
-  answered = record { end = nothing_open; walk = refl; same = λ going. sym (nothing_files 16); };
+  answered = record { end = nothing_open; walk = refl; same = λ going. sym (nothing_files 16) };
   few = omega arith;
   room = omega arith;
   stays = λ i m at. absurd (none_placed 16 i m at);
@@ -57,9 +57,9 @@ replied told files number asked replies after reply kept now shut capacity capac
     let longer : length (replies ++ reply ∷ []) ≡ length replies + 1 = length_one replies reply in
     let front : take (length replies + 1) asked ≡ take (length replies) asked ++ line ∷ [] = take_more asked (length replies) [] some in
     let walk = walk-more told files nothing_open (files_of file_in kept) (files_of file_in now) (take (length replies) asked) replies line reply
-        (subst (Walk told files nothing_open (take (length replies) asked) replies) (book.answered.same going) book.answered.walk) (permits line at) in
+    (subst (Walk told files nothing_open (take (length replies) asked) replies) (book.answered.same going) book.answered.walk) (permits line at) in
     rw items (record {
-      answered = record { end = files_of file_in now; walk = rw (longer, front) walk; same = λ g. refl; };
+      answered = record { end = files_of file_in now; walk = rw (longer, front) walk; same = λ g. refl };
       few = omega (arith, longer, some);
       room = omega (arith, big, book.room);
       stays = stays;
@@ -71,11 +71,11 @@ pub opened : (told : Bool) (files : Files) (number : ℕ) (asked : List (List �
     size ≡ stay.size → HasSize told files stay.path stay.size → IsStay number stay → IsBook told files number asked after now shut capacity2
 opened told files number asked replies after kept now shut capacity capacity2 place size stay book items big going some asks free put is right mine =
     replied told files number asked replies after (r.Size size) kept now shut capacity capacity2 book items big going some
-        (λ line at. rw (asks line at) (open-size file_in kept now told files place stay.path size stay free put right refl is))
-        (λ i m at. elim (place_put kept place i (Some stay)) [
-          | inl e ↦ let same : stay ≡ m = cc in subst (IsStay number) same mine
-          | inr e ↦ book.stays i m (sym e ∙ sym (ap (λ l. place_at l i) put) ∙ at)
-        ])
+    (λ line at. rw (asks line at) (open-size file_in kept now told files place stay.path size stay free put right refl is))
+    (λ i m at. elim (place_put kept place i (Some stay)) [
+      | inl e ↦ let same : stay ≡ m = cc in subst (IsStay number) same mine
+      | inr e ↦ book.stays i m (sym e ∙ sym (ap (λ l. place_at l i) put) ∙ at)
+    ])
 
 with_stay : {C : Type 0} (o : Option Mark) → IsSome o → ((stay : Mark) → o ≡ Some stay → C) → C
 with_stay None h f = cc
@@ -87,17 +87,17 @@ pub closed : (told : Bool) (files : Files) (number : ℕ) (asked : List (List �
     IsBook told files number asked after now shut capacity2
 closed told files number asked replies after kept now shut capacity capacity2 place book items big going some asks is took = with_stay (place_at kept place) is (λ stay found.
     replied told files number asked replies after r.Closed kept now shut capacity capacity2 book items big going some
-        (λ line at. rw (asks line at) (close-open file_in kept now told files place stay found took))
-        (λ i m at. elim (place_put kept place i None) [
-          | inl e ↦ cc
-          | inr e ↦ book.stays i m (sym e ∙ sym (ap (λ l. place_at l i) took) ∙ at)
-        ]))
+    (λ line at. rw (asks line at) (close-open file_in kept now told files place stay found took))
+    (λ i m at. elim (place_put kept place i None) [
+      | inl e ↦ cc
+      | inr e ↦ book.stays i m (sym e ∙ sym (ap (λ l. place_at l i) took) ∙ at)
+    ]))
 
 -- what was open at a place goes, with no reply
 pub shut : (told : Bool) (files : Files) (number : ℕ) (asked : List (List ℕ)) (replies : List Reply) (kept now : List (Option Mark)) (was : Bool) (capacity place : ℕ) →
     IsBook told files number asked replies kept was capacity → now ≡ slice_set kept place None → IsBook told files number asked replies now true capacity
 shut told files number asked replies kept now was capacity place book took = record {
-  answered = record { end = book.answered.end; walk = book.answered.walk; same = λ going. absurd (cc); };
+  answered = record { end = book.answered.end; walk = book.answered.walk; same = λ going. absurd (cc) };
   few = book.few;
   room = book.room;
   stays = λ i m at. elim (place_put kept place i None) [

@@ -1,6 +1,6 @@
 -- The steps of a client that open and close a file.
-use Rattle.std.proofs.Common.{◌≡◌, ℕ, ◌+◌, ◌*◌, ◌≤◌, ◌<◌, List, [], ◌∷◌, ◌++◌, refl, sym, ap, ◌∙◌, subst, arith, Bool, true, false}
-use Rattle.std.specs.Prelude.{Option, Some, None, Ok, ◌==◌, sum_by, if◌then◌else◌}
+use Rattle.std.proofs.Common.{◌≡◌, ℕ, ◌+◌, ◌*◌, ◌≤◌, List, [], ◌∷◌, ◌++◌, refl, sym, ap, ◌∙◌, subst, arith, Bool}
+use Rattle.std.specs.Prelude.{Ok, if◌then◌else◌}
 use Rattle.pfc_world.specs.Counts.{RoseBy}
 use Rattle.pfc_log.specs.declared.entry.Entry.{Entry}
 use Rattle.pfc_log.specs.declared.entry.Entry.TheVariants as e
@@ -17,10 +17,10 @@ use Rattle.pfc_actor.specs.Books.{BookView, IsNext, open_weight}
 use Rattle.pfc_actor.specs.StageView.{StageView, Rest, Closing}
 use Rattle.pfc_actor.specs.StageView as st
 use Rattle.pfc_actor.specs.Stages.{shares, no_shares, stage_weight, owed, asking, failing}
-use Rattle.pfc_actor.specs.Steps.{IsTallied, IsWithin, Shrinks, Own, Step}
-use Rattle.pfc_actor.proofs.Tallied.{Answers, made, quiet, told}
+use Rattle.pfc_actor.specs.Steps.{Own, Step}
+use Rattle.pfc_actor.proofs.Tallied.{made, quiet, told}
 use Rattle.pfc_actor.proofs.Steps.{shrinks_same}
-use Rattle.pfc_actor.proofs.Entering.{Gained, gained_one, HasRoom, no_room, step_on}
+use Rattle.pfc_actor.proofs.Entering.{gained_one, no_room, step_on}
 
 pub still_home : (c c2 : CoreView) (x : Entry) (out : List Mark) → c2 ≡ entered c x out → c2 ≡ record c { entries = c2.entries; out = c2.out }
 still_home c c2 x out same = subst (λ (v : CoreView). v ≡ record c { entries = v.entries; out = v.out }) (sym same) refl
@@ -60,13 +60,13 @@ opened_step b b2 l st c c2 number n size path stay light unowed whole asks lone 
     let enters : c2 ≡ entered c (e.Opened b.number) c2.out = attaches.enters ∙ ap (λ (m : ℕ). entered c (e.Opened m) c2.out) mine in
     let one : g.opened ≡ 1 = ap (λ (q : Bool). if q then 1 else 0) (eq_self b.number) in
     step_on b b2 l l st Rest c c2 g num refl asked (still_home c c2 (e.Opened b.number) c2.out enters)
-        (λ w. let h = weighs w in let m = attaches.gains w in let z = light w in omega (arith, h, m, z))
-        (gained_one b.number c.entries c2.entries (e.Opened b.number) (ap (λ (v : CoreView). v.entries) enters) refl)
-        (λ t old. told b b2 l l st Rest t (together t g) (Ok (q.Open number path)) (r.Size size) asked replies next
-            (record { opened = omega (arith, one); served = omega arith; read = omega arith; })
-            (made l l st Rest t (together t g) 1 0 (omega arith) (omega (arith, unowed, asks)) (omega arith)) (subst_faults t.faults l.faults old.faults) (omega (arith, whole)) old)
-        (rw (lone c.instance) (no_room c.block_size g refl refl refl))
-        (λ i other. rw (lone i) (shrinks_same no_shares))
+    (λ w. let h = weighs w in let m = attaches.gains w in let z = light w in omega (arith, h, m, z))
+    (gained_one b.number c.entries c2.entries (e.Opened b.number) (ap (λ (v : CoreView). v.entries) enters) refl)
+    (λ t old. told b b2 l l st Rest t (together t g) (Ok (q.Open number path)) (r.Size size) asked replies next
+    (record { opened = omega (arith, one); served = omega arith; read = omega arith })
+    (made l l st Rest t (together t g) 1 0 (omega arith) (omega (arith, unowed, asks)) (omega arith)) (subst_faults t.faults l.faults old.faults) (omega (arith, whole)) old)
+    (rw (lone c.instance) (no_room c.block_size g refl refl refl))
+    (λ i other. rw (lone i) (shrinks_same no_shares))
 
 -- the file is closed
 pub closed_step : (b b2 : BookView) (l : LineView) (c c2 : CoreView) (number : ℕ) (stay : Mark) → IsNext b (Ok (q.Close number)) → stay.client ≡ b.number → Detaches c stay c2 →
@@ -76,13 +76,13 @@ closed_step b b2 l c c2 number stay next mine detaches weighs num asked replies 
     let g : Tally = gain b.number (owners c.entries) (e.Closed b.number) in
     let enters : c2 ≡ entered c (e.Closed b.number) c2.out = detaches.enters ∙ ap (λ (m : ℕ). entered c (e.Closed m) c2.out) mine in
     step_on b b2 l l (Closing number) st.Closed c c2 g num refl asked (still_home c c2 (e.Closed b.number) c2.out enters)
-        (λ w. let h = weighs w in let m = detaches.loses w in omega (arith, h, m))
-        (gained_one b.number c.entries c2.entries (e.Closed b.number) (ap (λ (v : CoreView). v.entries) enters) refl)
-        (λ t old. told b b2 l l (Closing number) st.Closed t (together t g) (Ok (q.Close number)) r.Closed asked replies next
-            (record { opened = omega arith; served = omega arith; read = omega arith; })
-            (made l l (Closing number) st.Closed t (together t g) 0 0 (omega arith) (omega arith) (omega arith)) (subst_faults t.faults l.faults old.faults) (omega arith) old)
-        (no_room c.block_size g refl refl refl)
-        (λ i other. shrinks_same no_shares)
+    (λ w. let h = weighs w in let m = detaches.loses w in omega (arith, h, m))
+    (gained_one b.number c.entries c2.entries (e.Closed b.number) (ap (λ (v : CoreView). v.entries) enters) refl)
+    (λ t old. told b b2 l l (Closing number) st.Closed t (together t g) (Ok (q.Close number)) r.Closed asked replies next
+    (record { opened = omega arith; served = omega arith; read = omega arith })
+    (made l l (Closing number) st.Closed t (together t g) 0 0 (omega arith) (omega arith) (omega arith)) (subst_faults t.faults l.faults old.faults) (omega arith) old)
+    (no_room c.block_size g refl refl refl)
+    (λ i other. shrinks_same no_shares)
 
 -- the file is closed without a reply
 pub shut_step : (b b2 : BookView) (l : LineView) (c c2 : CoreView) (stay : Mark) → stay.client ≡ b.number → Detaches c stay c2 → ((w : Mark → ℕ) → open_weight w b2.stays + w stay ≡ open_weight w b.stays) →
@@ -91,9 +91,9 @@ shut_step b b2 l c c2 stay mine detaches weighs num asked replies =
     let g : Tally = gain b.number (owners c.entries) (e.Closed b.number) in
     let enters : c2 ≡ entered c (e.Closed b.number) c2.out = detaches.enters ∙ ap (λ (m : ℕ). entered c (e.Closed m) c2.out) mine in
     step_on b b2 l l Rest Rest c c2 g num refl asked (still_home c c2 (e.Closed b.number) c2.out enters)
-        (λ w. let h = weighs w in let m = detaches.loses w in omega (arith, h, m))
-        (gained_one b.number c.entries c2.entries (e.Closed b.number) (ap (λ (v : CoreView). v.entries) enters) refl)
-        (λ t old. quiet b b2 l l Rest Rest t (together t g) asked replies (omega arith) (omega arith) (omega arith) (made l l Rest Rest t (together t g) 0 0 (omega arith) (omega arith) (omega arith))
-            (subst_faults t.faults l.faults old.faults) (omega arith) old)
-        (no_room c.block_size g refl refl refl)
-        (λ i other. shrinks_same no_shares)
+    (λ w. let h = weighs w in let m = detaches.loses w in omega (arith, h, m))
+    (gained_one b.number c.entries c2.entries (e.Closed b.number) (ap (λ (v : CoreView). v.entries) enters) refl)
+    (λ t old. quiet b b2 l l Rest Rest t (together t g) asked replies (omega arith) (omega arith) (omega arith) (made l l Rest Rest t (together t g) 0 0 (omega arith) (omega arith) (omega arith))
+    (subst_faults t.faults l.faults old.faults) (omega arith) old)
+    (no_room c.block_size g refl refl refl)
+    (λ i other. shrinks_same no_shares)

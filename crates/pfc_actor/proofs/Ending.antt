@@ -1,7 +1,6 @@
 -- How a read ends.
-use Rattle.std.proofs.Common.{◌≡◌, ℕ, zero, suc, ◌+◌, ◌*◌, ◌-◌, ◌≤◌, ◌<◌, List, [], ◌∷◌, ◌++◌, length, refl, sym, ap, ◌∙◌, subst, arith, Bool, true, false, inr}
-use Rattle.std.specs.Prelude.{Option, Some, None, Ok, ◌==◌, sum_by, min, if◌then◌else◌, IsTrue, IsSomeAnd}
-use Rattle.pfc_base.specs.declared.block.Piece.{Piece}
+use Rattle.std.proofs.Common.{◌≡◌, ℕ, zero, suc, ◌*◌, ◌-◌, ◌≤◌, ◌<◌, List, [], ◌∷◌, ◌++◌, length, refl, sym, ap, ◌∙◌, subst, arith, Bool, false, inr}
+use Rattle.std.specs.Prelude.{Option, Some, None, Ok, ◌==◌, min, if◌then◌else◌, IsTrue, IsSomeAnd}
 use Rattle.pfc_base.specs.Block.{slice_of}
 use Rattle.pfc_world.specs.Files.{Files, file_at, HasSize}
 use Rattle.pfc_log.specs.declared.entry.Served.{Served}
@@ -13,22 +12,21 @@ use Rattle.pfc_client.specs.declared.reply.Reply.TheVariants as r
 use Rattle.pfc_client.specs.declared.request.Request.TheVariants as q
 use Rattle.pfc_client.specs.Permitted.{Plain, Permits, files_of, most_bytes}
 use Rattle.pfc_client.specs.Session.{place_at}
-use Rattle.pfc_client.specs.Told.{is_size, is_data, bytes_in, lost_at, is_lost}
+use Rattle.pfc_client.specs.Told.{is_size, is_data, bytes_in, lost_at}
 use Rattle.pfc_client.proofs.Permitting.{read-fetch}
 use Rattle.pfc_client.proofs.Sessions.{place_at-files_of}
 use Rattle.pfc_core.specs.LineView.{LineView}
-use Rattle.pfc_core.specs.Marks.{Mark, sees}
+use Rattle.pfc_core.specs.Marks.{Mark}
 use Rattle.pfc_core.specs.View.{CoreView}
 use Rattle.pfc_read.specs.Ends.{EndsRead, IsData, op_len, with_served}
 use Rattle.pfc_read.specs.Ends as ends
-use Rattle.pfc_read.specs.OpView.{OpView, held}
+use Rattle.pfc_read.specs.OpView.{OpView}
 use Rattle.pfc_actor.specs.Books.{BookView, IsNext, file_in}
 use Rattle.pfc_actor.specs.StageView.{Rest, Ending}
-use Rattle.pfc_actor.specs.Stages.{no_shares, op_shares}
 use Rattle.pfc_actor.specs.Steps.{Step, Knows}
-use Rattle.pfc_actor.proofs.Entering.{Gained, HasRoom}
+use Rattle.pfc_actor.proofs.Entering.{Gained}
 use Rattle.pfc_actor.proofs.Going.{ended_step, shares_here, none_more}
-use Rattle.pfc_actor.proofs.Holding.{of_file, sees_self}
+use Rattle.pfc_actor.proofs.Holding.{of_file}
 
 abbrev pub served_gain : Served → Tally
 served_gain s = record nothing { served = 1; hit = s.hit; missed = s.missed; bypassed = s.bypassed }
@@ -38,7 +36,7 @@ served_more t s = rw (none_more t.opened, none_more t.hits, none_more t.waits, n
 
 -- the core has all that the read holds
 reading_known : (b : BookView) (op : OpView) (c : CoreView) → Knows b (Ending op) c → op.reading.instance ≡ c.instance → ends.Knows c op
-reading_known b op c knows here = record { instance_is = here; each = λ m at. let k = knows.known m at in omega (arith, k); }
+reading_known b op c knows here = record { instance_is = here; each = λ m at. let k = knows.known m at in omega (arith, k) }
 
 -- its reading is of the core's file
 reading_blocks : (b : BookView) (op : OpView) (c : CoreView) → Knows b (Ending op) c → op.reading.instance ≡ c.instance → op.reading.block_size ≡ c.block_size
@@ -59,10 +57,10 @@ served_step told files b b2 l op c c2 number bytes s next answered knows here no
     let known = reading_known b op c knows here in let closes = ended.known (ended.lists known) in let size = ap (λ (k : ℕ). k * op.hits) (reading_blocks b op c knows here) in
     let size2 = ap (λ (k : ℕ). k * op.waits) (reading_blocks b op c knows here) in let size3 = ap (λ (k : ℕ). k * op.directs) (reading_blocks b op c knows here) in
     ended_step b b2 l op c c2 (served_gain s) number (r.Bytes bytes) next answered here none closes.unchanged (ended.spends known)
-        (its_tally b op c c2 (served_gain s) mine (closes.mine ∙ served_more (tally op.reading.client c.entries) s) closes.others)
-        (record { size = refl; opened = refl; served = refl; read = brought.sum; landed = refl; faults = refl; wants = refl; directs = refl; })
-        (omega (arith, whole))
-        (rw (shares_here c.instance op here) (record { hit = omega (arith, brought.hit, size); missed = omega (arith, brought.missed, size2); bypassed = omega (arith, brought.bypassed, size3); }))
+    (its_tally b op c c2 (served_gain s) mine (closes.mine ∙ served_more (tally op.reading.client c.entries) s) closes.others)
+    (record { size = refl; opened = refl; served = refl; read = brought.sum; landed = refl; faults = refl; wants = refl; directs = refl })
+    (omega (arith, whole))
+    (rw (shares_here c.instance op here) (record { hit = omega (arith, brought.hit, size); missed = omega (arith, brought.missed, size2); bypassed = omega (arith, brought.bypassed, size3) }))
 
 -- the read ends without
 pub unserved_step : (b b2 : BookView) (l : LineView) (op : OpView) (c c2 : CoreView) (number : ℕ) (reply : Reply) → IsNext b (Ok (q.Read number op.piece)) →
@@ -71,10 +69,10 @@ pub unserved_step : (b b2 : BookView) (l : LineView) (op : OpView) (c c2 : CoreV
 unserved_step b b2 l op c c2 number reply next answered knows here none mine ended size bare empty loses few =
     let known = reading_known b op c knows here in let closes = ended.known (ended.lists known) in
     ended_step b b2 l op c c2 nothing number reply next answered here none closes.unchanged (ended.spends known)
-        (its_tally b op c c2 nothing mine (closes.mine ∙ sym (nothing_more (tally op.reading.client c.entries))) closes.others)
-        (record { size = size; opened = refl; served = sym (ap {B = ℕ} (λ (q : Bool). if q then 1 else 0) bare); read = sym empty; landed = refl; faults = refl; wants = refl; directs = refl; })
-        (omega (arith, loses, few))
-        (rw (shares_here c.instance op here) (record { hit = omega arith; missed = omega arith; bypassed = omega arith; }))
+    (its_tally b op c c2 nothing mine (closes.mine ∙ sym (nothing_more (tally op.reading.client c.entries))) closes.others)
+    (record { size = size; opened = refl; served = sym (ap {B = ℕ} (λ (q : Bool). if q then 1 else 0) bare); read = sym empty; landed = refl; faults = refl; wants = refl; directs = refl })
+    (omega (arith, loses, few))
+    (rw (shares_here c.instance op here) (record { hit = omega arith; missed = omega arith; bypassed = omega arith }))
 
 -- the bytes are the plain reply
 pub its_bytes : (kept : List (Option Mark)) (told : Bool) (files : Files) (number : ℕ) (op : OpView) (stay : Mark) (bytes : List ℕ) (s : Served) → place_at kept number ≡ Some stay → op.reading.path ≡ stay.path → op.reading.size ≡ stay.size →
@@ -82,7 +80,7 @@ pub its_bytes : (kept : List (Option Mark)) (told : Bool) (files : Files) (numbe
 its_bytes kept told files number op stay bytes s at path size short brought =
     let long : length bytes ≡ min op.piece.len (stay.size - op.piece.off) = brought.long ∙ ap (λ (n : ℕ). min op.piece.len (n - op.piece.off)) size in
     let right : IsTrue told → IsSomeAnd (file_at files stay.path) (λ file. bytes ≡ slice_of file op.piece.off op.piece.len) =
-        λ t. subst (λ (p : List ℕ). IsSomeAnd (file_at files p) (λ file. bytes ≡ slice_of file op.piece.off op.piece.len)) path (brought.right t) in
+    λ t. subst (λ (p : List ℕ). IsSomeAnd (file_at files p) (λ file. bytes ≡ slice_of file op.piece.off op.piece.len)) path (brought.right t) in
     rw (place_at-files_of file_in kept number, at) (inr (short, bytes, (long, right), refl), refl)
 
 -- a failed fetch may stand in the place of bytes

@@ -1,6 +1,6 @@
 -- What a core's entries add to tallies, and a step on a core from that.
-use Rattle.std.proofs.Common.{◌≡◌, ℕ, ◌+◌, ◌*◌, ◌≤◌, ◌<◌, List, [], ◌∷◌, ◌++◌, refl, sym, ap, ◌∙◌, subst, arith, Bool, true, false}
-use Rattle.std.specs.Prelude.{Option, Some, None, ◌==◌, sum_by}
+use Rattle.std.proofs.Common.{◌≡◌, ℕ, ◌+◌, ◌*◌, ◌≤◌, List, [], ◌∷◌, ◌++◌, refl, sym, ap, ◌∙◌, subst, arith, false}
+use Rattle.std.specs.Prelude.{Some, ◌==◌, sum_by}
 use Rattle.pfc_log.specs.declared.entry.Entry.{Entry}
 use Rattle.pfc_log.specs.Owners.{owners, is_client}
 use Rattle.pfc_log.specs.Tallies.{Tally, tally, together, gain, nothing, client_in}
@@ -26,7 +26,7 @@ gained_one n es es2 x e of = rw e (record {
 })
 
 pub gained_same : (n : ℕ) (es es2 : List Entry) → es2 ≡ es → Gained n es es2 nothing
-gained_same n es es2 e = rw e (record { mine = sym (nothing_more (tally n es)); others = λ m ne. refl; })
+gained_same n es es2 e = rw e (record { mine = sym (nothing_more (tally n es)); others = λ m ne. refl })
 
 -- room for the shares, behind what was gained
 pub record HasRoom (s s2 : Shares) (k : ℕ) (g : Tally) : Type 0 where
@@ -45,7 +45,7 @@ within_on s s2 k t g room old = record {
 }
 
 pub no_room : (k : ℕ) (g : Tally) → g.hit ≡ 0 → g.missed ≡ 0 → g.bypassed ≡ 0 → HasRoom no_shares no_shares k g
-no_room k g hit missed bypassed = record { hit = omega (arith, hit); missed = omega (arith, missed); bypassed = omega (arith, bypassed); }
+no_room k g hit missed bypassed = record { hit = omega (arith, hit); missed = omega (arith, missed); bypassed = omega (arith, bypassed) }
 
 pub step_on : (b b2 : BookView) (l l2 : LineView) (st st2 : StageView) (c c2 : CoreView) (g : Tally) → b2.number ≡ b.number → l2.number ≡ l.number → b2.asked ≡ b.asked →
     c2 ≡ record c { entries = c2.entries; out = c2.out } → ((w : Mark → ℕ) → weight w b2 st2 + sum_by w c.out ≡ weight w b st + sum_by w c2.out) → Gained b.number c.entries c2.entries g →

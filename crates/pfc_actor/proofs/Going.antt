@@ -1,6 +1,6 @@
 -- The steps of a read.
-use Rattle.std.proofs.Common.{◌≡◌, ℕ, ◌+◌, ◌*◌, ◌≤◌, ◌<◌, List, [], ◌∷◌, ◌++◌, refl, sym, ap, ◌∙◌, subst, arith, Bool, true, false, inl, inr, append_assoc}
-use Rattle.std.specs.Prelude.{◌⊎◌, Option, Some, None, Ok, ◌==◌, sum_by, if◌then◌else◌, slice_get}
+use Rattle.std.proofs.Common.{◌≡◌, ℕ, ◌+◌, ◌*◌, ◌≤◌, ◌<◌, List, [], ◌∷◌, ◌++◌, refl, sym, ap, ◌∙◌, subst, arith, Bool, true, false, inl, inr}
+use Rattle.std.specs.Prelude.{◌⊎◌, Option, Some, Ok, ◌==◌, sum_by, if◌then◌else◌, slice_get}
 use Rattle.pfc_base.specs.declared.block.Part.{Part}
 use Rattle.pfc_base.specs.declared.block.Piece.{Piece}
 use Rattle.pfc_world.specs.Counts.{Rose, RoseBy, add_count, last_count}
@@ -9,7 +9,6 @@ use Rattle.pfc_log.specs.declared.entry.Entry.{Entry}
 use Rattle.pfc_log.specs.declared.entry.Entry.TheVariants as e
 use Rattle.pfc_log.specs.declared.entry.Fell.{Fell}
 use Rattle.pfc_log.specs.declared.entry.Fell.TheVariants as fell
-use Rattle.pfc_log.specs.declared.entry.Served.{Served}
 use Rattle.pfc_log.specs.declared.entry.Way.TheVariants as way
 use Rattle.pfc_log.specs.Owners.{owners, is_client}
 use Rattle.pfc_log.specs.Tallies.{Tally, tally, together, gain, nothing}
@@ -27,9 +26,7 @@ use Rattle.pfc_core.specs.Line as line
 use Rattle.pfc_core.specs.LineView.{LineView}
 use Rattle.pfc_core.specs.Looks.{LeavesFor}
 use Rattle.pfc_core.specs.Marks.{Mark, sees}
-use Rattle.pfc_core.specs.View.{CoreView, entered}
-use Rattle.pfc_read.specs.Ends.{EndsRead, with_served}
-use Rattle.pfc_read.specs.Ends as ends
+use Rattle.pfc_core.specs.View.{CoreView}
 use Rattle.pfc_read.specs.Fills.{Owes}
 use Rattle.pfc_read.specs.OpView.{OpView, held, first_met, Nothing}
 use Rattle.pfc_read.specs.Plans.{Plans, with_asked}
@@ -37,10 +34,10 @@ use Rattle.pfc_read.specs.Steps.{GivesTicket, GivesLeave, GivesPin, GivesEnd}
 use Rattle.pfc_actor.specs.Books.{BookView, IsNext, open_weight}
 use Rattle.pfc_actor.specs.StageView.{StageView, Rest, Planning, Reading, Landed, Full, Running, Directing, Looking, Ending}
 use Rattle.pfc_actor.specs.Stages.{Shares, shares, no_shares, op_shares, weight, stage_weight, owed, asking, failing}
-use Rattle.pfc_actor.specs.Steps.{IsTallied, Shrinks, Own, Step, Knows}
+use Rattle.pfc_actor.specs.Steps.{Shrinks, Own, Step, Knows}
 use Rattle.pfc_actor.proofs.Tallied.{GoesOn, Answers, counted, made, quiet, told}
 use Rattle.pfc_actor.proofs.Steps.{shrinks_same}
-use Rattle.pfc_actor.proofs.Entering.{Gained, gained_one, gained_same, HasRoom, step_on}
+use Rattle.pfc_actor.proofs.Entering.{Gained, gained_one, HasRoom, step_on}
 use Rattle.pfc_actor.proofs.Cores.{still_home, own_step}
 
 -- the stage is one of this read
@@ -95,10 +92,10 @@ read_step : (b : BookView) (l l2 : LineView) (st st2 : StageView) (op op2 : OpVi
     Gained b.number c.entries c2.entries g → ((t : Tally) → GoesOn l l2 st st2 t (together t g) 0) → l.faults ≤ l2.faults → RoseBy l.faults g.faults l2.faults → Step b l st c b l2 st2 c2
 read_step b l l2 st st2 op op2 c c2 g was is on silent here number home tokens gained goes climbs rose =
     step_on b b l l2 st st2 c c2 g refl number refl home tokens gained
-        (λ t old. quiet b b l l2 st st2 t (together t g) refl refl (omega (arith, silent.opened)) (omega (arith, silent.served)) (omega (arith, silent.hit, silent.missed, silent.bypassed)) (goes t)
-            (rise t.faults g.faults l.faults l2.faults old.faults climbs rose) (omega (arith, was.fails, is.fails, on.failed)) old)
-        (rw (was.shares_are c.instance, is.shares_are c.instance) (op_room c.instance c.block_size op op2 g on silent here))
-        (λ i other. rw (was.shares_are i, is.shares_are i) (op_elsewhere i c op op2 on.reading here other))
+    (λ t old. quiet b b l l2 st st2 t (together t g) refl refl (omega (arith, silent.opened)) (omega (arith, silent.served)) (omega (arith, silent.hit, silent.missed, silent.bypassed)) (goes t)
+    (rise t.faults g.faults l.faults l2.faults old.faults climbs rose) (omega (arith, was.fails, is.fails, on.failed)) old)
+    (rw (was.shares_are c.instance, is.shares_are c.instance) (op_room c.instance c.block_size op op2 g on silent here))
+    (λ i other. rw (was.shares_are i, is.shares_are i) (op_elsewhere i c op op2 on.reading here other))
 
 same_shares : (i : ℕ) (op op2 : OpView) → Continues op op2 nothing → Shrinks (op_shares i op) (op_shares i op2)
 same_shares i op op2 on =
@@ -106,7 +103,7 @@ same_shares i op op2 on =
     rw (on.reading, on.hits, on.waits, directs) (shrinks_same (op_shares i op))
 
 shrinks_on : (a b c : Shares) → Shrinks a b → Shrinks b c → Shrinks a c
-shrinks_on a b c first later = record { hits = omega (arith, first.hits, later.hits); waits = omega (arith, first.waits, later.waits); directs = omega (arith, first.directs, later.directs); }
+shrinks_on a b c first later = record { hits = omega (arith, first.hits, later.hits); waits = omega (arith, first.waits, later.waits); directs = omega (arith, first.directs, later.directs) }
 
 -- a read goes on by itself
 pub op_own : (b : BookView) (l : LineView) (st st2 : StageView) (op op2 : OpView) → IsReading st op → IsReading st2 op2 → Continues op op2 nothing → op2.failed ≡ op.failed → owed st2 ≡ owed st →
@@ -171,12 +168,12 @@ landed_step b l l2 op op2 ticket back job twin c c2 brings lands same here mine 
     let whose : back.client ≡ b.number = ap (λ (m : Mark). m.client) brings.back_is ∙ mine in
     let one : g.landed ≡ 1 = ended_one b.number (owners c.entries) back.number back.client lands.owner_is whose in
     let leaves = ap (λ (v : OpView). v.leaves) same in
-    read_step b l l2 (Running op ticket) (Landed op2 job) op op2 c c2 g (record { asks = refl; fails = refl; shares_are = λ i. refl; }) (record { asks = refl; fails = refl; shares_are = λ i. refl; })
-        (record { reading = ap (λ (v : OpView). v.reading) same; hits = ap (λ (v : OpView). v.hits) same; waits = ap (λ (v : OpView). v.waits) same; directs = let d = ap (λ (v : OpView). v.directs) same in omega (arith, d); failed = let d = ap (λ (v : OpView). v.failed) same in omega (arith, d); })
-        (record { opened = refl; served = refl; hit = refl; missed = refl; bypassed = refl; }) here brings.number (still_home c c2 (e.Landed back.number) c2.out lands.enters)
-        (λ w. let s = lands.swaps w in let k = ap w brings.back_is in let h = ap (held w) same in omega (arith, s, k, h))
-        (gained_one b.number c.entries c2.entries (e.Landed back.number) (ap (λ (v : CoreView). v.entries) lands.enters) (lands.owner_is ∙ ap Some whose))
-        (λ t. made l l2 (Running op ticket) (Landed op2 job) t (together t g) 0 1 brings.calls (omega (arith, one, leaves)) (omega arith)) brings.faults (inl (omega (arith, brings.faults)))
+    read_step b l l2 (Running op ticket) (Landed op2 job) op op2 c c2 g (record { asks = refl; fails = refl; shares_are = λ i. refl }) (record { asks = refl; fails = refl; shares_are = λ i. refl })
+    (record { reading = ap (λ (v : OpView). v.reading) same; hits = ap (λ (v : OpView). v.hits) same; waits = ap (λ (v : OpView). v.waits) same; directs = let d = ap (λ (v : OpView). v.directs) same in omega (arith, d); failed = let d = ap (λ (v : OpView). v.failed) same in omega (arith, d) })
+    (record { opened = refl; served = refl; hit = refl; missed = refl; bypassed = refl }) here brings.number (still_home c c2 (e.Landed back.number) c2.out lands.enters)
+    (λ w. let s = lands.swaps w in let k = ap w brings.back_is in let h = ap (held w) same in omega (arith, s, k, h))
+    (gained_one b.number c.entries c2.entries (e.Landed back.number) (ap (λ (v : CoreView). v.entries) lands.enters) (lands.owner_is ∙ ap Some whose))
+    (λ t. made l l2 (Running op ticket) (Landed op2 job) t (together t g) 0 1 brings.calls (omega (arith, one, leaves)) (omega arith)) brings.faults (inl (omega (arith, brings.faults)))
 
 pub failed_step : (b : BookView) (l l2 : LineView) (op op2 : OpView) (ticket back : Mark) (c c2 : CoreView) → line.Fails l ticket back l2 → Fails c back fell.Fault c2 →
     op2 ≡ record op { failed = op.failed + 1; met = first_met op.met fell.Fault; given = Nothing } → op.reading.instance ≡ c.instance → ticket.client ≡ b.number → Step b l (Running op ticket) c b l2 (Reading op2) c2
@@ -185,12 +182,12 @@ failed_step b l l2 op op2 ticket back c c2 fault fails same here mine =
     let whose : back.client ≡ b.number = ap (λ (m : Mark). m.client) fault.back_is ∙ mine in
     let one : g.faults ≡ 1 = ended_one b.number (owners c.entries) back.number back.client fails.owner_is whose in
     let leaves = ap (λ (v : OpView). v.leaves) same in
-    read_step b l l2 (Running op ticket) (Reading op2) op op2 c c2 g (record { asks = refl; fails = refl; shares_are = λ i. refl; }) (record { asks = refl; fails = refl; shares_are = λ i. refl; })
-        (record { reading = ap (λ (v : OpView). v.reading) same; hits = ap (λ (v : OpView). v.hits) same; waits = ap (λ (v : OpView). v.waits) same; directs = let d = ap (λ (v : OpView). v.directs) same in omega (arith, d); failed = let d = ap (λ (v : OpView). v.failed) same in omega (arith, d, one); })
-        (record { opened = refl; served = refl; hit = refl; missed = refl; bypassed = refl; }) here fault.number (still_home c c2 (e.Failed back.number fell.Fault) c2.out fails.enters)
-        (λ w. let s = fails.loses w in let k = ap w fault.back_is in let h = ap (held w) same in omega (arith, s, k, h))
-        (gained_one b.number c.entries c2.entries (e.Failed back.number fell.Fault) (ap (λ (v : CoreView). v.entries) fails.enters) (fails.owner_is ∙ ap Some whose))
-        (λ t. made l l2 (Running op ticket) (Reading op2) t (together t g) 0 1 fault.calls (omega (arith, one, leaves)) (omega arith)) fault.faults (rose_one l.faults g.faults l2.faults one fault.rose)
+    read_step b l l2 (Running op ticket) (Reading op2) op op2 c c2 g (record { asks = refl; fails = refl; shares_are = λ i. refl }) (record { asks = refl; fails = refl; shares_are = λ i. refl })
+    (record { reading = ap (λ (v : OpView). v.reading) same; hits = ap (λ (v : OpView). v.hits) same; waits = ap (λ (v : OpView). v.waits) same; directs = let d = ap (λ (v : OpView). v.directs) same in omega (arith, d); failed = let d = ap (λ (v : OpView). v.failed) same in omega (arith, d, one) })
+    (record { opened = refl; served = refl; hit = refl; missed = refl; bypassed = refl }) here fault.number (still_home c c2 (e.Failed back.number fell.Fault) c2.out fails.enters)
+    (λ w. let s = fails.loses w in let k = ap w fault.back_is in let h = ap (held w) same in omega (arith, s, k, h))
+    (gained_one b.number c.entries c2.entries (e.Failed back.number fell.Fault) (ap (λ (v : CoreView). v.entries) fails.enters) (fails.owner_is ∙ ap Some whose))
+    (λ t. made l l2 (Running op ticket) (Reading op2) t (together t g) 0 1 fault.calls (omega (arith, one, leaves)) (omega arith)) fault.faults (rose_one l.faults g.faults l2.faults one fault.rose)
 
 pub wanted_step : (b : BookView) (l l2 : LineView) (op op2 : OpView) (ticket back : Mark) (c c2 : CoreView) → Wants l ticket back l2 → Fails c back fell.Memory c2 →
     op2 ≡ record op { failed = op.failed + 1; met = first_met op.met fell.Memory; given = Nothing } → op.reading.instance ≡ c.instance → ticket.client ≡ b.number → Step b l (Running op ticket) c b l2 (Reading op2) c2
@@ -199,16 +196,16 @@ wanted_step b l l2 op op2 ticket back c c2 wants fails same here mine =
     let whose : back.client ≡ b.number = ap (λ (m : Mark). m.client) wants.back_is ∙ mine in
     let one : g.wants ≡ 1 = ended_one b.number (owners c.entries) back.number back.client fails.owner_is whose in
     let leaves = ap (λ (v : OpView). v.leaves) same in
-    read_step b l l2 (Running op ticket) (Reading op2) op op2 c c2 g (record { asks = refl; fails = refl; shares_are = λ i. refl; }) (record { asks = refl; fails = refl; shares_are = λ i. refl; })
-        (record { reading = ap (λ (v : OpView). v.reading) same; hits = ap (λ (v : OpView). v.hits) same; waits = ap (λ (v : OpView). v.waits) same; directs = let d = ap (λ (v : OpView). v.directs) same in omega (arith, d); failed = let d = ap (λ (v : OpView). v.failed) same in omega (arith, d, one); })
-        (record { opened = refl; served = refl; hit = refl; missed = refl; bypassed = refl; }) here wants.number (still_home c c2 (e.Failed back.number fell.Memory) c2.out fails.enters)
-        (λ w. let s = fails.loses w in let k = ap w wants.back_is in let h = ap (held w) same in omega (arith, s, k, h))
-        (gained_one b.number c.entries c2.entries (e.Failed back.number fell.Memory) (ap (λ (v : CoreView). v.entries) fails.enters) (fails.owner_is ∙ ap Some whose))
-        (λ t. record {
-          before = λ low. (called l.calls l2.calls wants.calls low).0;
-          least = λ low. let n = called l.calls l2.calls wants.calls low in omega (arith, n.1, leaves);
-          most = λ low. let n = called l.calls l2.calls wants.calls low in omega (arith, n.2, leaves, one);
-        }) wants.faults (inl (omega (arith, wants.faults)))
+    read_step b l l2 (Running op ticket) (Reading op2) op op2 c c2 g (record { asks = refl; fails = refl; shares_are = λ i. refl }) (record { asks = refl; fails = refl; shares_are = λ i. refl })
+    (record { reading = ap (λ (v : OpView). v.reading) same; hits = ap (λ (v : OpView). v.hits) same; waits = ap (λ (v : OpView). v.waits) same; directs = let d = ap (λ (v : OpView). v.directs) same in omega (arith, d); failed = let d = ap (λ (v : OpView). v.failed) same in omega (arith, d, one) })
+    (record { opened = refl; served = refl; hit = refl; missed = refl; bypassed = refl }) here wants.number (still_home c c2 (e.Failed back.number fell.Memory) c2.out fails.enters)
+    (λ w. let s = fails.loses w in let k = ap w wants.back_is in let h = ap (held w) same in omega (arith, s, k, h))
+    (gained_one b.number c.entries c2.entries (e.Failed back.number fell.Memory) (ap (λ (v : CoreView). v.entries) fails.enters) (fails.owner_is ∙ ap Some whose))
+    (λ t. record {
+      before = λ low. (called l.calls l2.calls wants.calls low).0;
+      least = λ low. let n = called l.calls l2.calls wants.calls low in omega (arith, n.1, leaves);
+      most = λ low. let n = called l.calls l2.calls wants.calls low in omega (arith, n.2, leaves, one);
+    }) wants.faults (inl (omega (arith, wants.faults)))
 
 -- ---- a look
 
@@ -220,53 +217,53 @@ lost_step b l op op2 pin part c c2 leaves owes here mine =
     let g : Tally = gain b.number (owners c.entries) x in
     let one : g.directs ≡ 1 = ap {B = ℕ} (λ (n : ℕ). if n == b.number then 1 else 0) mine ∙ ap (λ (q : Bool). if q then 1 else 0) (eq_self b.number) in
     let more = ap (λ (v : OpView). v.leaves) owes.rest in
-    read_step b l l (Looking op pin part) (Reading op2) op op2 c c2 g (record { asks = refl; fails = refl; shares_are = λ i. refl; }) (record { asks = refl; fails = refl; shares_are = λ i. refl; })
-        (record { reading = ap (λ (v : OpView). v.reading) owes.rest; hits = ap (λ (v : OpView). v.hits) owes.rest; waits = ap (λ (v : OpView). v.waits) owes.rest; directs = let d = ap (λ (v : OpView). v.directs) owes.rest in omega (arith, d, one); failed = let d = ap (λ (v : OpView). v.failed) owes.rest in omega (arith, d); })
-        (record { opened = refl; served = refl; hit = refl; missed = refl; bypassed = refl; }) here refl (still_home c c2 x c2.out leaves.enters)
-        (λ w. let s = leaves.loses w in let h = ap (held w) owes.rest in omega (arith, s, h))
-        (gained_one b.number c.entries c2.entries x (ap (λ (v : CoreView). v.entries) leaves.enters) (ap Some mine))
-        (λ t. made l l (Looking op pin part) (Reading op2) t (together t g) 0 0 (omega arith) (omega (arith, one, more)) (omega arith)) (omega arith) (inl (omega arith))
+    read_step b l l (Looking op pin part) (Reading op2) op op2 c c2 g (record { asks = refl; fails = refl; shares_are = λ i. refl }) (record { asks = refl; fails = refl; shares_are = λ i. refl })
+    (record { reading = ap (λ (v : OpView). v.reading) owes.rest; hits = ap (λ (v : OpView). v.hits) owes.rest; waits = ap (λ (v : OpView). v.waits) owes.rest; directs = let d = ap (λ (v : OpView). v.directs) owes.rest in omega (arith, d, one); failed = let d = ap (λ (v : OpView). v.failed) owes.rest in omega (arith, d) })
+    (record { opened = refl; served = refl; hit = refl; missed = refl; bypassed = refl }) here refl (still_home c c2 x c2.out leaves.enters)
+    (λ w. let s = leaves.loses w in let h = ap (held w) owes.rest in omega (arith, s, h))
+    (gained_one b.number c.entries c2.entries x (ap (λ (v : CoreView). v.entries) leaves.enters) (ap Some mine))
+    (λ t. made l l (Looking op pin part) (Reading op2) t (together t g) 0 0 (omega arith) (omega (arith, one, more)) (omega arith)) (omega arith) (inl (omega arith))
 
 -- the pin goes back, and the core is as it was
 pub looked_step : (b : BookView) (l : LineView) (op op2 : OpView) (pin : Mark) (part : Part) (looks : ℕ) (met : Option Fell) (c c2 : CoreView) → c2 ≡ c → ((w : Mark → ℕ) → sum_by w op2.pins ≡ sum_by w op.pins + w pin) →
     op2 ≡ record op { pins = op2.pins; looks = looks; met = met; given = Nothing } → Step b l (Looking op pin part) c b l (Reading op2) c2
 looked_step b l op op2 pin part looks met c c2 same gains rest =
     own_step b b l l (Looking op pin part) (Reading op2) c c2
-        (op_own b l (Looking op pin part) (Reading op2) op op2 (record { asks = refl; fails = refl; shares_are = λ i. refl; }) (record { asks = refl; fails = refl; shares_are = λ i. refl; })
-            (record { reading = ap (λ (v : OpView). v.reading) rest; hits = ap (λ (v : OpView). v.hits) rest; waits = ap (λ (v : OpView). v.waits) rest; directs = let d = ap (λ (v : OpView). v.directs) rest in omega (arith, d); failed = let d = ap (λ (v : OpView). v.failed) rest in omega (arith, d); })
-            (ap (λ (v : OpView). v.failed) rest) (ap (λ (v : OpView). v.leaves) rest)
-            (λ w. let n = gains w in let h = ap (held w) rest in omega (arith, n, h)))
-        same
+    (op_own b l (Looking op pin part) (Reading op2) op op2 (record { asks = refl; fails = refl; shares_are = λ i. refl }) (record { asks = refl; fails = refl; shares_are = λ i. refl })
+    (record { reading = ap (λ (v : OpView). v.reading) rest; hits = ap (λ (v : OpView). v.hits) rest; waits = ap (λ (v : OpView). v.waits) rest; directs = let d = ap (λ (v : OpView). v.directs) rest in omega (arith, d); failed = let d = ap (λ (v : OpView). v.failed) rest in omega (arith, d) })
+    (ap (λ (v : OpView). v.failed) rest) (ap (λ (v : OpView). v.leaves) rest)
+    (λ w. let n = gains w in let h = ap (held w) rest in omega (arith, n, h)))
+    same
 
 -- ---- the next action
 
 pub run_next : (b : BookView) (l : LineView) (op op2 : OpView) (ticket : Mark) → GivesTicket op ticket op2 → Own b l (Reading op) b l (Running op2 ticket)
 run_next b l op op2 ticket gives =
-    op_own b l (Reading op) (Running op2 ticket) op op2 (record { asks = refl; fails = refl; shares_are = λ i. refl; }) (record { asks = refl; fails = refl; shares_are = λ i. refl; })
-        (record { reading = ap (λ (v : OpView). v.reading) gives.rest; hits = ap (λ (v : OpView). v.hits) gives.rest; waits = ap (λ (v : OpView). v.waits) gives.rest; directs = let d = ap (λ (v : OpView). v.directs) gives.rest in omega (arith, d); failed = let d = ap (λ (v : OpView). v.failed) gives.rest in omega (arith, d); })
-        (ap (λ (v : OpView). v.failed) gives.rest) (ap (λ (v : OpView). v.leaves) gives.rest)
-        (λ w. let n = gives.loses w in let h = ap (held w) gives.rest in omega (arith, n, h))
+    op_own b l (Reading op) (Running op2 ticket) op op2 (record { asks = refl; fails = refl; shares_are = λ i. refl }) (record { asks = refl; fails = refl; shares_are = λ i. refl })
+    (record { reading = ap (λ (v : OpView). v.reading) gives.rest; hits = ap (λ (v : OpView). v.hits) gives.rest; waits = ap (λ (v : OpView). v.waits) gives.rest; directs = let d = ap (λ (v : OpView). v.directs) gives.rest in omega (arith, d); failed = let d = ap (λ (v : OpView). v.failed) gives.rest in omega (arith, d) })
+    (ap (λ (v : OpView). v.failed) gives.rest) (ap (λ (v : OpView). v.leaves) gives.rest)
+    (λ w. let n = gives.loses w in let h = ap (held w) gives.rest in omega (arith, n, h))
 
 pub direct_next : (b : BookView) (l : LineView) (op op2 : OpView) (leave : LeaveView) → GivesLeave op leave op2 → Own b l (Reading op) b l (Directing op2 leave)
 direct_next b l op op2 leave gives =
-    op_own b l (Reading op) (Directing op2 leave) op op2 (record { asks = refl; fails = refl; shares_are = λ i. refl; }) (record { asks = refl; fails = refl; shares_are = λ i. refl; })
-        (record { reading = ap (λ (v : OpView). v.reading) gives.rest; hits = ap (λ (v : OpView). v.hits) gives.rest; waits = ap (λ (v : OpView). v.waits) gives.rest; directs = let d = ap (λ (v : OpView). v.directs) gives.rest in omega (arith, d); failed = let d = ap (λ (v : OpView). v.failed) gives.rest in omega (arith, d); })
-        (ap (λ (v : OpView). v.failed) gives.rest) (sym gives.one)
-        (λ w. let h = ap (held w) gives.rest in omega (arith, h))
+    op_own b l (Reading op) (Directing op2 leave) op op2 (record { asks = refl; fails = refl; shares_are = λ i. refl }) (record { asks = refl; fails = refl; shares_are = λ i. refl })
+    (record { reading = ap (λ (v : OpView). v.reading) gives.rest; hits = ap (λ (v : OpView). v.hits) gives.rest; waits = ap (λ (v : OpView). v.waits) gives.rest; directs = let d = ap (λ (v : OpView). v.directs) gives.rest in omega (arith, d); failed = let d = ap (λ (v : OpView). v.failed) gives.rest in omega (arith, d) })
+    (ap (λ (v : OpView). v.failed) gives.rest) (sym gives.one)
+    (λ w. let h = ap (held w) gives.rest in omega (arith, h))
 
 pub look_next : (b : BookView) (l : LineView) (op op2 : OpView) (pin : Mark) (part : Part) → GivesPin op pin part op2 → Own b l (Reading op) b l (Looking op2 pin part)
 look_next b l op op2 pin part gives =
-    op_own b l (Reading op) (Looking op2 pin part) op op2 (record { asks = refl; fails = refl; shares_are = λ i. refl; }) (record { asks = refl; fails = refl; shares_are = λ i. refl; })
-        (record { reading = ap (λ (v : OpView). v.reading) gives.rest; hits = ap (λ (v : OpView). v.hits) gives.rest; waits = ap (λ (v : OpView). v.waits) gives.rest; directs = let d = ap (λ (v : OpView). v.directs) gives.rest in omega (arith, d); failed = let d = ap (λ (v : OpView). v.failed) gives.rest in omega (arith, d); })
-        (ap (λ (v : OpView). v.failed) gives.rest) (ap (λ (v : OpView). v.leaves) gives.rest)
-        (λ w. let n = gives.loses w in let h = ap (held w) gives.rest in omega (arith, n, h))
+    op_own b l (Reading op) (Looking op2 pin part) op op2 (record { asks = refl; fails = refl; shares_are = λ i. refl }) (record { asks = refl; fails = refl; shares_are = λ i. refl })
+    (record { reading = ap (λ (v : OpView). v.reading) gives.rest; hits = ap (λ (v : OpView). v.hits) gives.rest; waits = ap (λ (v : OpView). v.waits) gives.rest; directs = let d = ap (λ (v : OpView). v.directs) gives.rest in omega (arith, d); failed = let d = ap (λ (v : OpView). v.failed) gives.rest in omega (arith, d) })
+    (ap (λ (v : OpView). v.failed) gives.rest) (ap (λ (v : OpView). v.leaves) gives.rest)
+    (λ w. let n = gives.loses w in let h = ap (held w) gives.rest in omega (arith, n, h))
 
 pub end_next : (b : BookView) (l : LineView) (op op2 : OpView) → GivesEnd op op2 → Own b l (Reading op) b l (Ending op2)
 end_next b l op op2 gives =
-    op_own b l (Reading op) (Ending op2) op op2 (record { asks = refl; fails = refl; shares_are = λ i. refl; }) (record { asks = refl; fails = refl; shares_are = λ i. refl; })
-        (record { reading = ap (λ (v : OpView). v.reading) gives.rest; hits = ap (λ (v : OpView). v.hits) gives.rest; waits = ap (λ (v : OpView). v.waits) gives.rest; directs = let d = ap (λ (v : OpView). v.directs) gives.rest in omega (arith, d); failed = let d = ap (λ (v : OpView). v.failed) gives.rest in omega (arith, d); })
-        (ap (λ (v : OpView). v.failed) gives.rest) (ap (λ (v : OpView). v.leaves) gives.rest)
-        (λ w. let h = ap (held w) gives.rest in omega (arith, h))
+    op_own b l (Reading op) (Ending op2) op op2 (record { asks = refl; fails = refl; shares_are = λ i. refl }) (record { asks = refl; fails = refl; shares_are = λ i. refl })
+    (record { reading = ap (λ (v : OpView). v.reading) gives.rest; hits = ap (λ (v : OpView). v.hits) gives.rest; waits = ap (λ (v : OpView). v.waits) gives.rest; directs = let d = ap (λ (v : OpView). v.directs) gives.rest in omega (arith, d); failed = let d = ap (λ (v : OpView). v.failed) gives.rest in omega (arith, d) })
+    (ap (λ (v : OpView). v.failed) gives.rest) (ap (λ (v : OpView). v.leaves) gives.rest)
+    (λ w. let h = ap (held w) gives.rest in omega (arith, h))
 
 -- ---- a plan
 
@@ -284,19 +281,19 @@ pub planned_step : (b : BookView) (l : LineView) (number n : ℕ) (piece : Piece
 planned_step b l number n piece op c c2 plans mine =
     let g : Tally = record nothing { hits = op.hits; waits = op.waits } in
     step_on b b l l (Planning number piece) (Reading op) c c2 g refl refl refl plans.unchanged
-        (λ w. let s = plans.gains w in omega (arith, s))
-        (record {
-          mine = subst (λ (m : ℕ). tally m c2.entries ≡ together (tally m c.entries) g) mine (plans.mine ∙ asked_more (tally n c.entries) op.hits op.waits);
-          others = λ m other. plans.others m (eq_sym m n (ap (λ (k : ℕ). m == k) mine ∙ other));
-        })
-        (λ t old. quiet b b l l (Planning number piece) (Reading op) t (together t g) refl refl (omega arith) (omega arith) (omega arith)
-            (made l l (Planning number piece) (Reading op) t (together t g) 0 0 (omega arith) (omega (arith, plans.leaves_is)) (omega arith)) (rise t.faults 0 l.faults l.faults old.faults (omega arith) (inl (omega arith))) (omega (arith, plans.failed_is)) old)
-        (rw (shares_here c.instance op plans.begins.reads.instance_is) (record {
-          hit = omega arith;
-          missed = omega arith;
-          bypassed = let d = ap (λ (k : ℕ). c.block_size * k) plans.directs_is in let z = none_times c.block_size in omega (arith, d, z);
-        }))
-        (λ i other. rw (shares_there i op (ap (λ (k : ℕ). k == i) plans.begins.reads.instance_is ∙ eq_sym i c.instance other)) (shrinks_same no_shares))
+    (λ w. let s = plans.gains w in omega (arith, s))
+    (record {
+      mine = subst (λ (m : ℕ). tally m c2.entries ≡ together (tally m c.entries) g) mine (plans.mine ∙ asked_more (tally n c.entries) op.hits op.waits);
+      others = λ m other. plans.others m (eq_sym m n (ap (λ (k : ℕ). m == k) mine ∙ other));
+    })
+    (λ t old. quiet b b l l (Planning number piece) (Reading op) t (together t g) refl refl (omega arith) (omega arith) (omega arith)
+    (made l l (Planning number piece) (Reading op) t (together t g) 0 0 (omega arith) (omega (arith, plans.leaves_is)) (omega arith)) (rise t.faults 0 l.faults l.faults old.faults (omega arith) (inl (omega arith))) (omega (arith, plans.failed_is)) old)
+    (rw (shares_here c.instance op plans.begins.reads.instance_is) (record {
+      hit = omega arith;
+      missed = omega arith;
+      bypassed = let d = ap (λ (k : ℕ). c.block_size * k) plans.directs_is in let z = none_times c.block_size in omega (arith, d, z);
+    }))
+    (λ i other. rw (shares_there i op (ap (λ (k : ℕ). k == i) plans.begins.reads.instance_is ∙ eq_sym i c.instance other)) (shrinks_same no_shares))
 
 -- ---- an end
 
@@ -324,13 +321,13 @@ pub ended_step : (b b2 : BookView) (l : LineView) (op : OpView) (c c2 : CoreView
     EndsWith reply g → op.failed ≤ lost_at (Ok (q.Read number op.piece)) reply → HasRoom (op_shares c.instance op) no_shares c.block_size g → Step b l (Ending op) c b2 l Rest c2
 ended_step b b2 l op c c2 g number reply next answered here none home spends gained with fails room =
     step_on b b2 l l (Ending op) Rest c c2 g (ap (λ (v : BookView). v.number) answered) refl (ap (λ (v : BookView). v.asked) answered) home
-        (λ w. let s = spends w in let o = ap (λ (v : BookView). open_weight w v.stays) answered in omega (arith, s, o))
-        gained
-        (λ t old. told b b2 l l (Ending op) Rest t (together t g) (Ok (q.Read number op.piece)) reply (ap (λ (v : BookView). v.asked) answered) (ap (λ (v : BookView). v.replies) answered) next (answers_end reply t g with)
-            (made l l (Ending op) Rest t (together t g) 0 0 (omega arith) (omega (arith, none, with.landed, with.faults, with.directs)) (omega (arith, with.wants)))
-            (rise t.faults g.faults l.faults l.faults old.faults (omega arith) (inl (omega (arith, with.faults)))) (omega (arith, with.faults, with.wants, fails)) old)
-        room
-        (λ i other. rw (shares_there i op (ap (λ (k : ℕ). k == i) here ∙ eq_sym i c.instance other)) (shrinks_same no_shares))
+    (λ w. let s = spends w in let o = ap (λ (v : BookView). open_weight w v.stays) answered in omega (arith, s, o))
+    gained
+    (λ t old. told b b2 l l (Ending op) Rest t (together t g) (Ok (q.Read number op.piece)) reply (ap (λ (v : BookView). v.asked) answered) (ap (λ (v : BookView). v.replies) answered) next (answers_end reply t g with)
+    (made l l (Ending op) Rest t (together t g) 0 0 (omega arith) (omega (arith, none, with.landed, with.faults, with.directs)) (omega (arith, with.wants)))
+    (rise t.faults g.faults l.faults l.faults old.faults (omega arith) (inl (omega (arith, with.faults)))) (omega (arith, with.faults, with.wants, fails)) old)
+    room
+    (λ i other. rw (shares_there i op (ap (λ (k : ℕ). k == i) here ∙ eq_sym i c.instance other)) (shrinks_same no_shares))
 
 -- ---- a block that is dropped
 
@@ -345,10 +342,10 @@ dropped_or_left m i why es es2 false is = ap (tally m) is ∙ tally_same m es (e
 pub dropped_step : (b : BookView) (l : LineView) (op : OpView) (job : Mark) (why : DropCause) (c c2 : CoreView) → Drops c job why c2 → op.reading.instance ≡ c.instance → Step b l (Full op job) c b l (Reading op) c2
 dropped_step b l op job why c c2 drops here =
     let same = λ (m : ℕ). dropped_or_left m job.block why c.entries c2.entries (0 == pins_on job.block job.flight c.out) (ap (λ (v : CoreView). v.entries) drops.enters) in
-    read_step b l l (Full op job) (Reading op) op op c c2 nothing (record { asks = refl; fails = refl; shares_are = λ i. refl; }) (record { asks = refl; fails = refl; shares_are = λ i. refl; })
-        (record { reading = refl; hits = refl; waits = refl; directs = omega arith; failed = omega arith; })
-        (record { opened = refl; served = refl; hit = refl; missed = refl; bypassed = refl; }) here refl
-        (subst (λ (v : CoreView). v ≡ record c { entries = v.entries; out = v.out }) (sym drops.enters) refl)
-        (λ w. let s = drops.loses w in omega (arith, s))
-        (record { mine = same b.number ∙ sym (nothing_more (tally b.number c.entries)); others = λ m other. same m; })
-        (λ t. made l l (Full op job) (Reading op) t (together t nothing) 0 0 (omega arith) (omega arith) (omega arith)) (omega arith) (inl (omega arith))
+    read_step b l l (Full op job) (Reading op) op op c c2 nothing (record { asks = refl; fails = refl; shares_are = λ i. refl }) (record { asks = refl; fails = refl; shares_are = λ i. refl })
+    (record { reading = refl; hits = refl; waits = refl; directs = omega arith; failed = omega arith })
+    (record { opened = refl; served = refl; hit = refl; missed = refl; bypassed = refl }) here refl
+    (subst (λ (v : CoreView). v ≡ record c { entries = v.entries; out = v.out }) (sym drops.enters) refl)
+    (λ w. let s = drops.loses w in omega (arith, s))
+    (record { mine = same b.number ∙ sym (nothing_more (tally b.number c.entries)); others = λ m other. same m })
+    (λ t. made l l (Full op job) (Reading op) t (together t nothing) 0 0 (omega arith) (omega arith) (omega arith)) (omega arith) (inl (omega arith))

@@ -1,6 +1,6 @@
 -- What a client holds its core knows.
-use Rattle.std.proofs.Common.{◌≡◌, ℕ, zero, suc, ◌+◌, ◌≤◌, ◌<◌, List, [], ◌∷◌, refl, sym, ap, ◌∙◌, arith, Bool, true, false, ◌⊎◌, inl, inr}
-use Rattle.std.specs.Prelude.{◌==◌, ◌&&◌, if◌then◌else◌, sum_by, Option, Some, None}
+use Rattle.std.proofs.Common.{◌≡◌, ℕ, zero, suc, ◌≤◌, ◌<◌, List, [], ◌∷◌, refl, ap, ◌∙◌, arith, Bool, true, false, ◌⊎◌, inl, inr}
+use Rattle.std.specs.Prelude.{◌==◌, ◌&&◌, if◌then◌else◌, sum_by, Option, Some}
 use Rattle.std.specs.Cmp.Lexicographic.{pointwise}
 use Rattle.std.proofs.lemmas.Bool.{eqb-true}
 use Rattle.std.proofs.lemmas.List.Sums.{sum_by-cons}
@@ -65,7 +65,7 @@ own_file : (c : CoreView) (m : Mark) → foreign c m ≡ 0 → IsOfFile c m
 own_file c m own =
     let home : Mark = record m { instance = c.instance; path = c.path; size = c.size; block_size = c.block_size } in
     let one : same m home ≡ true = rw (eq_self (kind_code m.kind), eq_self m.number, eq_self m.client, eq_self m.block, eq_self m.flight, eq_self m.owner)
-        (spread (m.instance == c.instance) (pointwise ◌==◌ m.path c.path) (m.size == c.size) (m.block_size == c.block_size) (passed (m.instance == c.instance && pointwise ◌==◌ m.path c.path && m.size == c.size && m.block_size == c.block_size) own)) in record {
+    (spread (m.instance == c.instance) (pointwise ◌==◌ m.path c.path) (m.size == c.size) (m.block_size == c.block_size) (passed (m.instance == c.instance && pointwise ◌==◌ m.path c.path && m.size == c.size && m.block_size == c.block_size) own)) in record {
       path_is = same_path m home one;
       size_is = same_size m home one;
       block_size_is = same_block_size m home one;
@@ -78,7 +78,7 @@ of_file b st c m knows here held = let known = knows.known m here in let one = s
 -- who has a share in a core holds a token of it
 op_held : (i : ℕ) (b : BookView) (st : StageView) (op : OpView) → shares i st ≡ op_shares i op → ((w : Mark → ℕ) → w op.reading ≤ weight w b st) → (shares i st ≡ no_shares) ⊎ Holds i b st
 op_held i b st op is heavy = by_test (op.reading.instance == i)
-    (λ y. inr (record { mark = op.reading; instance_is = eqb-true op.reading.instance i y; held = heavy (sees op.reading); }))
+    (λ y. inr (record { mark = op.reading; instance_is = eqb-true op.reading.instance i y; held = heavy (sees op.reading) }))
     (λ n. inl (is ∙ ap (λ (q : Bool). if q then record { hits = op.hits; waits = op.waits; directs = op.directs } else no_shares) n))
 
 pub shares_held : (i : ℕ) (b : BookView) (st : StageView) → (shares i st ≡ no_shares) ⊎ Holds i b st

@@ -1,22 +1,22 @@
 -- The steps of a client.
-use Rattle.std.proofs.Common.{◌≡◌, ℕ, ◌+◌, ◌≤◌, ◌<◌, List, [], ◌∷◌, ◌++◌, refl, sym, ap, ◌∙◌, subst, arith, Bool, true, false}
+use Rattle.std.proofs.Common.{◌≡◌, ℕ, ◌+◌, ◌≤◌, [], ◌∷◌, ◌++◌, refl, ap, arith, Bool, false}
 use Rattle.std.specs.Prelude.{Result, if◌then◌else◌}
 use Rattle.pfc_world.specs.Counts.{RoseBy, add_count}
 use Rattle.pfc_log.specs.Tallies.{Tally}
 use Rattle.pfc_client.specs.declared.request.Request.{Request}
 use Rattle.pfc_client.specs.declared.request.RequestRefusal.{RequestRefusal}
 use Rattle.pfc_client.specs.declared.reply.Reply.{Reply}
-use Rattle.pfc_client.specs.Told.{stats_at, lost_at, is_size, is_data, bytes_in}
+use Rattle.pfc_client.specs.Told.{stats_at, is_size, is_data, bytes_in}
 use Rattle.pfc_core.specs.Marks.{Mark}
 use Rattle.pfc_core.specs.LineView.{LineView}
 use Rattle.pfc_actor.specs.Books.{BookView, IsNext, open_weight}
 use Rattle.pfc_actor.specs.StageView.{StageView, Rest}
-use Rattle.pfc_actor.specs.Stages.{Shares, no_shares, shares, weight, stage_weight, owed, asking, failing}
+use Rattle.pfc_actor.specs.Stages.{Shares, no_shares, shares, stage_weight, owed, asking, failing}
 use Rattle.pfc_actor.specs.Steps.{Own, Shrinks}
-use Rattle.pfc_actor.proofs.Tallied.{Answers, GoesOn, made, told, quiet}
+use Rattle.pfc_actor.proofs.Tallied.{Answers, made, told}
 
 pub shrinks_same : (s : Shares) → Shrinks s s
-shrinks_same s = record { hits = omega arith; waits = omega arith; directs = omega arith; }
+shrinks_same s = record { hits = omega arith; waits = omega arith; directs = omega arith }
 
 -- a reply that tells of nothing in a log
 pub answers_none : (t : Tally) (reply : Reply) → is_size reply ≡ false → is_data reply ≡ false → bytes_in reply ≡ 0 → Answers reply t t
@@ -40,7 +40,7 @@ own_answered b b2 l l2 st said reply calls light unowed whole lone e next size b
   tokens = λ w. let same = ap (λ v. open_weight w v.stays) e in let l = light w in omega (arith, same, l);
   tallied = λ t old.
       told b b2 l l2 st Rest t t said reply (ap (λ v. v.asked) e) (ap (λ v. v.replies) e) next (answers_none t reply size bare none)
-          (made l l2 st Rest t t (stats_at said reply) calls called (omega (arith, stat, unowed)) refl) (rose_later t.faults l.faults l2.faults old.faults faults) (omega (arith, whole)) old;
+      (made l l2 st Rest t t (stats_at said reply) calls called (omega (arith, stat, unowed)) refl) (rose_later t.faults l.faults l2.faults old.faults faults) (omega (arith, whole)) old;
   elsewhere = λ i. rw (lone i) (shrinks_same no_shares);
 }
 

@@ -97,11 +97,7 @@ fn see_read<W: World, O: Origin<W>>(
 }
 
 /// Sees whether there is anything to close.
-fn see_close<W: World, O: Origin<W>>(
-    book: &mut Book<W>,
-    line: &Line<W, O>,
-    number: u64,
-) -> Stage<W>
+fn see_close<W: World, O: Origin<W>>(book: &mut Book<W>, line: &Line<W, O>, number: u64) -> Stage<W>
     requires work { IsAsked book.old (q.Close number) }
     requires caused { IsCaused book.old line.now st.Rest }
     ensures work { AtWork book.new (seen result) }
@@ -133,4 +129,3 @@ pub(crate) fn take<W: World, O: Origin<W>>(book: &mut Book<W>, line: &mut Line<W
         Ok(Request::Close { number }) => see_close(book, line, number),
     }
 }
-

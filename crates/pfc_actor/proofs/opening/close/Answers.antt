@@ -1,4 +1,4 @@
-use Rattle.std.proofs.Common.{refl, ap, sym, ◌∙◌, arith}
+use Rattle.std.proofs.Common.{ap, sym, ◌∙◌, arith}
 use Rattle.pfc_core.specs.Marks.{sees}
 use Rattle.pfc_actor.specs.StageView as st
 use Rattle.pfc_actor.specs.Books.{BookView}
@@ -9,7 +9,7 @@ use Rattle.pfc_actor.proofs.opening.close.Goals as goal
 pub returns-in-Ok-clause-step : goal.returns-in-Ok-clause-step
 returns-in-Ok-clause-step g c =
     closed_step _ _ _ _ _ c.args.number c.in-Some.stay c.requires.work.0.next c.in-Some.ensures.mine.client_is c.in-Ok.ensures.ok c.in-Some.ensures.weighs
-        (ap (λ (v : BookView). v.number) c.closed.ensures.closed) (ap (λ (v : BookView). v.asked) c.closed.ensures.closed) (ap (λ (v : BookView). v.replies) c.closed.ensures.closed)
+    (ap (λ (v : BookView). v.number) c.closed.ensures.closed) (ap (λ (v : BookView). v.asked) c.closed.ensures.closed) (ap (λ (v : BookView). v.replies) c.closed.ensures.closed)
 
 pub returns-in-Err-clause-step : goal.returns-in-Err-clause-step
 returns-in-Err-clause-step g c =

@@ -1,5 +1,5 @@
-use Rattle.std.proofs.Common.{ap, sym, ◌∙◌, arith, ◌≡◌, ℕ}
-use Rattle.std.specs.Prelude.{Option, Some, option_map}
+use Rattle.std.proofs.Common.{ap, sym, ◌∙◌, arith, ◌≡◌}
+use Rattle.std.specs.Prelude.{Some, option_map}
 use Rattle.pfc_core.specs.Marks.{Mark, sees}
 use Rattle.pfc_actor.specs.StageView as st
 use Rattle.pfc_actor.specs.Books.{BookView}
@@ -18,4 +18,4 @@ unreachable-requires g c =
 pub returns-clause-step : goal.returns-clause-step
 returns-clause-step g c =
     shut_step _ _ _ _ _ c.in-Some-shut.stay c.in-Some-shut.ensures.mine.client_is c.in-Ok.ensures.ok c.in-Some-shut.ensures.weighs
-        (ap (λ (v : BookView). v.number) c.shut.ensures.rest) (ap (λ (v : BookView). v.asked) c.shut.ensures.rest) (ap (λ (v : BookView). v.replies) c.shut.ensures.rest)
+    (ap (λ (v : BookView). v.number) c.shut.ensures.rest) (ap (λ (v : BookView). v.asked) c.shut.ensures.rest) (ap (λ (v : BookView). v.replies) c.shut.ensures.rest)

@@ -1,5 +1,4 @@
-use Rattle.std.proofs.Common.{refl, ◌≡◌, ◌∙◌, ap, sym, subst, arith, ℕ, List}
-use Rattle.pfc_client.specs.Permitted.{Permits}
+use Rattle.std.proofs.Common.{refl, sym, subst, ℕ, List}
 use Rattle.pfc_read.specs.Ends.{IsData}
 use Rattle.pfc_actor.proofs.Ending.{served_step, unserved_step, its_bytes, its_fetch, none_of}
 use Rattle.pfc_actor.proofs.reading.finish.Goals as goal
@@ -7,7 +6,7 @@ use Rattle.pfc_actor.proofs.reading.finish.Goals as goal
 pub reply-requires-clause-permitted : goal.reply-requires-clause-permitted
 reply-requires-clause-permitted g c κs within line at = let goes = c.requires.work.0 in
     rw (goes.reads.asked.next.is line at) (its_bytes c.args.book.now.stays g.W.World.told g.W.World.files goes.number c.args.op goes.stay c.new.result c.in-Bytes.served goes.reads.is_open goes.path_is goes.size_is goes.reads.short
-        (subst (λ (v : List ℕ). IsData g.W.World.told g.W.World.files c.args.op v c.in-Bytes.served) (sym c.new.ensures) c.in-Bytes.ensures.answer.1))
+    (subst (λ (v : List ℕ). IsData g.W.World.told g.W.World.files c.args.op v c.in-Bytes.served) (sym c.new.ensures) c.in-Bytes.ensures.answer.1))
 
 pub reply-requires-in-Fetch-clause-permitted : goal.reply-requires-in-Fetch-clause-permitted
 reply-requires-in-Fetch-clause-permitted g c κs within line at = let goes = c.requires.work.0 in
@@ -16,8 +15,8 @@ reply-requires-in-Fetch-clause-permitted g c κs within line at = let goes = c.r
 pub returns-in-Bytes-clause-step : goal.returns-in-Bytes-clause-step
 returns-in-Bytes-clause-step g c = let goes = c.requires.work.0 in
     served_step g.W.World.told g.W.World.files c.args.book.now c.reply.new.self c.args.line.now c.args.op c.args.core.now c.finish.new.core goes.number c.new.result c.in-Bytes.served goes.reads.asked.next c.reply.ensures c.requires.knows c.requires.here c.requires.work.1
-        goes.client_is c.in-Bytes.ensures.core (subst (λ (v : List ℕ). IsData g.W.World.told g.W.World.files c.args.op v c.in-Bytes.served) (sym c.new.ensures) c.in-Bytes.ensures.answer.1)
-        (none_of c.args.op.failed (λ some. c.keeps.ensures.hurt some c.in-Bytes.ensures.answer.0))
+    goes.client_is c.in-Bytes.ensures.core (subst (λ (v : List ℕ). IsData g.W.World.told g.W.World.files c.args.op v c.in-Bytes.served) (sym c.new.ensures) c.in-Bytes.ensures.answer.1)
+    (none_of c.args.op.failed (λ some. c.keeps.ensures.hurt some c.in-Bytes.ensures.answer.0))
 
 pub returns-in-Fetch-clause-step : goal.returns-in-Fetch-clause-step
 returns-in-Fetch-clause-step g c = let goes = c.requires.work.0 in

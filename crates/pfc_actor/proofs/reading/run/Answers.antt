@@ -12,7 +12,7 @@ returns-in-Ok-clause-step g c =
 pub returns-in-Err-clause-step : goal.returns-in-Err-clause-step
 returns-in-Err-clause-step g c =
     absurd (no_stranger c.args.book.now (st.Running c.args.op c.args.ticket) c.args.core.now c.args.ticket c.requires.knows (c.requires.work.1.instance_is ∙ c.requires.here) (omega arith)
-        (ap (λ (m : Mark). listed m c.args.core.now.out) (sym c.in-Landed.ensures.back_is) ∙ c.in-Err.ensures.strayed.unlisted))
+    (ap (λ (m : Mark). listed m c.args.core.now.out) (sym c.in-Landed.ensures.back_is) ∙ c.in-Err.ensures.strayed.unlisted))
 
 pub returns-in-Ok-fail-clause-step : goal.returns-in-Ok-fail-clause-step
 returns-in-Ok-fail-clause-step g c =
@@ -21,7 +21,7 @@ returns-in-Ok-fail-clause-step g c =
 pub returns-in-Err-fail-clause-step : goal.returns-in-Err-fail-clause-step
 returns-in-Err-fail-clause-step g c =
     absurd (no_stranger c.args.book.now (st.Running c.args.op c.args.ticket) c.args.core.now c.args.ticket c.requires.knows (c.requires.work.1.instance_is ∙ c.requires.here) (omega arith)
-        (ap (λ (m : Mark). listed m c.args.core.now.out) (sym c.in-Fault.ensures.back_is) ∙ c.in-Err-fail.ensures.strayed.unlisted))
+    (ap (λ (m : Mark). listed m c.args.core.now.out) (sym c.in-Fault.ensures.back_is) ∙ c.in-Err-fail.ensures.strayed.unlisted))
 
 pub returns-in-Ok-fail-2-clause-step : goal.returns-in-Ok-fail-2-clause-step
 returns-in-Ok-fail-2-clause-step g c =
@@ -30,4 +30,4 @@ returns-in-Ok-fail-2-clause-step g c =
 pub returns-in-Err-fail-2-clause-step : goal.returns-in-Err-fail-2-clause-step
 returns-in-Err-fail-2-clause-step g c =
     absurd (no_stranger c.args.book.now (st.Running c.args.op c.args.ticket) c.args.core.now c.args.ticket c.requires.knows (c.requires.work.1.instance_is ∙ c.requires.here) (omega arith)
-        (ap (λ (m : Mark). listed m c.args.core.now.out) (sym c.in-Memory.ensures.back_is) ∙ c.in-Err-fail-2.ensures.strayed.unlisted))
+    (ap (λ (m : Mark). listed m c.args.core.now.out) (sym c.in-Memory.ensures.back_is) ∙ c.in-Err-fail-2.ensures.strayed.unlisted))
