@@ -5,7 +5,7 @@ ghost use Rattle.pfc_actor.specs.Clients.{holds};
 
 use crate::{Book, Client, Place};
 use pfc_base::{Path, block_count};
-use pfc_client::Reply;
+use pfc_client::{Reply, push_reply};
 use pfc_core::{FileCore, Line};
 use pfc_log::push_log;
 use pfc_memory::{MemoryHost, MemoryLink, RowWorld};
@@ -40,6 +40,13 @@ left 2
 closed 1
 ";
 
+const REPLIES: &[u8] = b"ok 8193
+data 2 4f50
+data 3 9e9fa0
+ok
+error descriptor
+";
+
 /// A host of which the calls of link 1 with these numbers fail.
 fn host_of(alloc: Global, fails: &[u64]) -> Result<RowHost, Fail> {
     let mut named = Vec::new(alloc);
@@ -64,8 +71,18 @@ fn client_of(alloc: Global, host: &mut RowHost, lines: &[&str]) -> Result<RowCli
     Ok(client)
 }
 
-#[test]
-fn a_client_answers_what_needs_no_core(rt: HostRuntime) -> Result<(), Fail> {
+/// The replies as a client is told them, each on a line.
+fn text_of(alloc: Global, replies: &[Reply]) -> Result<Vec<u8>, Fail> {
+    let mut text = Vec::new(alloc);
+    for reply in replies {
+        push_reply(alloc, &mut text, reply)?;
+        text.push(b'\n')?;
+    }
+    Ok(text)
+}
+
+/// The replies of a client whose second call fails. It takes each step on no core, and finds no memory for one.
+fn answer_alone(alloc: Global) -> Result<(Place, Place, Vec<Reply>), Fail> {
     let lines = [
         "nonsense",
         "read 0 0 1",
@@ -73,33 +90,27 @@ fn a_client_answers_what_needs_no_core(rt: HostRuntime) -> Result<(), Fail> {
         "open 1 /a",
         "open 2 /a",
     ];
-    let mut client = client_of(rt.alloc(), &mut host_of(rt.alloc(), &[1])?, &lines)?;
+    let mut client = client_of(alloc, &mut host_of(alloc, &[1])?, &lines)?;
     for _ in 0..5 {
         client.step_alone();
     }
     let wants = client.place();
     client.enter(true);
     let enters = client.place();
-    let busy = client.is_busy();
     client.give_up();
-    let done = client.is_done();
-    let (number, _link, replies) = client.end();
+    let (_number, _link, replies) = client.end();
+    Ok((wants, enters, replies))
+}
+
+#[test]
+fn a_client_answers_what_needs_no_core(rt: HostRuntime) -> Result<(), Fail> {
+    let (wants, enters, replies) = answer_alone(rt.alloc())?;
+    let text = text_of(rt.alloc(), &replies)?;
     assert_eq!(rt; wants, Place::Wants);
     assert_eq!(rt; enters, Place::Enters);
-    assert!(rt; busy);
-    assert!(rt; done);
-    assert_eq!(rt; number, 1);
-    assert!(rt;
-        matches!(
-            replies.as_slice(),
-            [
-                Reply::Request,
-                Reply::Descriptor,
-                Reply::NoFile,
-                Reply::Fetch,
-                Reply::Memory
-            ]
-        )
+    assert_eq!(rt;
+        text.as_slice(),
+        b"error request\nerror descriptor\nerror nofile\nerror fetch\nerror memory\n".as_slice()
     );
     Ok(())
 }
@@ -154,11 +165,21 @@ fn drive(alloc: Global, client: &mut RowClient, core: &mut FileCore<RowWorld>, s
     }
 }
 
+/// The replies to these lines, and the log.
+fn play(alloc: Global, lines: &[&str]) -> Result<(Vec<Reply>, Vec<u8>), Fail> {
+    let mut host = host_of(alloc, &[])?;
+    let mut core = core_of(alloc, &mut host)?;
+    let mut client = client_of(alloc, &mut host, lines)?;
+    drive(alloc, &mut client, &mut core, 40);
+    let (_number, _link, replies) = client.end();
+    let mut log = Vec::new(alloc);
+    push_log(alloc, &mut log, core.known().path(), core.log())?;
+    Ok((replies, log))
+}
+
 #[test]
 fn a_client_opens_reads_and_closes(rt: HostRuntime) -> Result<(), Fail> {
     let alloc = rt.alloc();
-    let mut host = host_of(alloc, &[])?;
-    let mut core = core_of(alloc, &mut host)?;
     let lines = [
         "open 3 /a",
         "read 3 4095 2",
@@ -166,25 +187,9 @@ fn a_client_opens_reads_and_closes(rt: HostRuntime) -> Result<(), Fail> {
         "close 3",
         "read 3 0 1",
     ];
-    let mut client = client_of(alloc, &mut host, &lines)?;
-    drive(alloc, &mut client, &mut core, 40);
-    let done = client.is_done();
-    let (_number, _link, replies) = client.end();
-    assert!(rt; done);
-    let [
-        Reply::Size(8193),
-        Reply::Bytes(first),
-        Reply::Bytes(second),
-        Reply::Closed,
-        Reply::Descriptor,
-    ] = replies.as_slice()
-    else {
-        return Err(Fail::new("other replies"));
-    };
-    assert_eq!(rt; first.as_slice(), [0x4f, 0x50].as_slice());
-    assert_eq!(rt; second.as_slice(), [0x9e, 0x9f, 0xa0].as_slice());
-    let mut log = Vec::new(alloc);
-    push_log(alloc, &mut log, core.known().path(), core.log())?;
+    let (replies, log) = play(alloc, &lines)?;
+    let text = text_of(alloc, &replies)?;
+    assert_eq!(rt; text.as_slice(), REPLIES);
     assert_eq!(rt; log.as_slice(), LOG);
     Ok(())
 }
