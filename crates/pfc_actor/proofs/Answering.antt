@@ -1,5 +1,5 @@
 -- Replies that are permitted.
-use Rattle.std.proofs.Common.{◌≡◌, ℕ, ◌<◌, List, refl, ap, sym, ◌∙◌, Bool, true, inl}
+use Rattle.std.proofs.Common.{◌≡◌, ℕ, ◌<◌, List, refl, Bool, true, inl}
 use Rattle.std.specs.Prelude.{Option, Some, None, Ok, option_map, is_some}
 use Rattle.pfc_base.specs.declared.block.Piece.{Piece}
 use Rattle.pfc_world.specs.Files.{Files}

@@ -1,6 +1,6 @@
 -- A client that is asked one more line.
-use Rattle.std.proofs.Common.{◌≡◌, ℕ, zero, suc, ◌+◌, ◌≤◌, ◌<◌, List, [], ◌∷◌, ◌++◌, length, refl, sym, ap, ◌∙◌, subst, arith, Bool, true, false}
-use Rattle.std.specs.Prelude.{Option, Some, None, Result, Ok, slice_get}
+use Rattle.std.proofs.Common.{◌≡◌, ℕ, zero, suc, ◌+◌, ◌≤◌, ◌<◌, List, [], ◌∷◌, ◌++◌, length, refl, sym, ◌∙◌, arith, false}
+use Rattle.std.specs.Prelude.{Result, Ok, slice_get}
 use Rattle.pfc_log.specs.Tallies.{Tally}
 use Rattle.pfc_client.specs.declared.request.Request.{Request}
 use Rattle.pfc_client.specs.declared.request.Request.TheVariants as q
@@ -11,7 +11,7 @@ use Rattle.pfc_read.specs.OpView.{OpView, Given}
 use Rattle.pfc_actor.specs.Books.{BookView, IsNext}
 use Rattle.pfc_actor.specs.StageView.{StageView}
 use Rattle.pfc_actor.specs.StageView as st
-use Rattle.pfc_actor.specs.Stages.{AtWork, IsAsked, Opens, Reads, GoesOn, shares}
+use Rattle.pfc_actor.specs.Stages.{AtWork, IsAsked, GoesOn, shares}
 use Rattle.pfc_actor.specs.Steps.{IsTallied}
 use Rattle.pfc_actor.specs.Clients.{ClientView, IsClient, Moves}
 use Rattle.pfc_actor.proofs.Steps.{shrinks_same}

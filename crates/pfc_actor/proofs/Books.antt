@@ -15,7 +15,7 @@ use Rattle.pfc_client.specs.Session.{place_at, is_free}
 use Rattle.pfc_client.specs.Permitted.{Permits, Walk, files_of, nothing_open}
 use Rattle.pfc_client.proofs.Walks.{walk-more}
 use Rattle.pfc_client.proofs.Permitting.{open-size, close-open}
-use Rattle.pfc_actor.specs.Books.{file_in, weight_in, open_weight, IsAnswered, IsBook, IsStay}
+use Rattle.pfc_actor.specs.Books.{file_in, weight_in, open_weight, IsBook, IsStay}
 
 -- a place that is put holds what was put, or what it held
 place_put : (kept : List (Option Mark)) (n i : ℕ) (o : Option Mark) → (place_at (slice_set kept n o) i ≡ o) ⊎ (place_at (slice_set kept n o) i ≡ place_at kept i)

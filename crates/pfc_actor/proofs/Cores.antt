@@ -1,6 +1,6 @@
 -- The steps of a client that open and close a file.
-use Rattle.std.proofs.Common.{◌≡◌, ℕ, ◌+◌, ◌*◌, ◌≤◌, ◌<◌, List, [], ◌∷◌, ◌++◌, refl, sym, ap, ◌∙◌, subst, arith, Bool, true, false}
-use Rattle.std.specs.Prelude.{Option, Some, None, Ok, ◌==◌, sum_by, if◌then◌else◌}
+use Rattle.std.proofs.Common.{◌≡◌, ℕ, ◌+◌, ◌*◌, ◌≤◌, List, [], ◌∷◌, ◌++◌, refl, sym, ap, ◌∙◌, subst, arith, Bool}
+use Rattle.std.specs.Prelude.{Ok, if◌then◌else◌}
 use Rattle.pfc_world.specs.Counts.{RoseBy}
 use Rattle.pfc_log.specs.declared.entry.Entry.{Entry}
 use Rattle.pfc_log.specs.declared.entry.Entry.TheVariants as e
@@ -17,10 +17,10 @@ use Rattle.pfc_actor.specs.Books.{BookView, IsNext, open_weight}
 use Rattle.pfc_actor.specs.StageView.{StageView, Rest, Closing}
 use Rattle.pfc_actor.specs.StageView as st
 use Rattle.pfc_actor.specs.Stages.{shares, no_shares, stage_weight, owed, asking, failing}
-use Rattle.pfc_actor.specs.Steps.{IsTallied, IsWithin, Shrinks, Own, Step}
-use Rattle.pfc_actor.proofs.Tallied.{Answers, made, quiet, told}
+use Rattle.pfc_actor.specs.Steps.{Own, Step}
+use Rattle.pfc_actor.proofs.Tallied.{made, quiet, told}
 use Rattle.pfc_actor.proofs.Steps.{shrinks_same}
-use Rattle.pfc_actor.proofs.Entering.{Gained, gained_one, HasRoom, no_room, step_on}
+use Rattle.pfc_actor.proofs.Entering.{gained_one, no_room, step_on}
 
 pub still_home : (c c2 : CoreView) (x : Entry) (out : List Mark) → c2 ≡ entered c x out → c2 ≡ record c { entries = c2.entries; out = c2.out }
 still_home c c2 x out same = subst (λ (v : CoreView). v ≡ record c { entries = v.entries; out = v.out }) (sym same) refl

@@ -1,7 +1,6 @@
 -- How a read ends.
-use Rattle.std.proofs.Common.{◌≡◌, ℕ, zero, suc, ◌+◌, ◌*◌, ◌-◌, ◌≤◌, ◌<◌, List, [], ◌∷◌, ◌++◌, length, refl, sym, ap, ◌∙◌, subst, arith, Bool, true, false, inr}
-use Rattle.std.specs.Prelude.{Option, Some, None, Ok, ◌==◌, sum_by, min, if◌then◌else◌, IsTrue, IsSomeAnd}
-use Rattle.pfc_base.specs.declared.block.Piece.{Piece}
+use Rattle.std.proofs.Common.{◌≡◌, ℕ, zero, suc, ◌*◌, ◌-◌, ◌≤◌, ◌<◌, List, [], ◌∷◌, ◌++◌, length, refl, sym, ap, ◌∙◌, subst, arith, Bool, false, inr}
+use Rattle.std.specs.Prelude.{Option, Some, None, Ok, ◌==◌, min, if◌then◌else◌, IsTrue, IsSomeAnd}
 use Rattle.pfc_base.specs.Block.{slice_of}
 use Rattle.pfc_world.specs.Files.{Files, file_at, HasSize}
 use Rattle.pfc_log.specs.declared.entry.Served.{Served}
@@ -13,22 +12,21 @@ use Rattle.pfc_client.specs.declared.reply.Reply.TheVariants as r
 use Rattle.pfc_client.specs.declared.request.Request.TheVariants as q
 use Rattle.pfc_client.specs.Permitted.{Plain, Permits, files_of, most_bytes}
 use Rattle.pfc_client.specs.Session.{place_at}
-use Rattle.pfc_client.specs.Told.{is_size, is_data, bytes_in, lost_at, is_lost}
+use Rattle.pfc_client.specs.Told.{is_size, is_data, bytes_in, lost_at}
 use Rattle.pfc_client.proofs.Permitting.{read-fetch}
 use Rattle.pfc_client.proofs.Sessions.{place_at-files_of}
 use Rattle.pfc_core.specs.LineView.{LineView}
-use Rattle.pfc_core.specs.Marks.{Mark, sees}
+use Rattle.pfc_core.specs.Marks.{Mark}
 use Rattle.pfc_core.specs.View.{CoreView}
 use Rattle.pfc_read.specs.Ends.{EndsRead, IsData, op_len, with_served}
 use Rattle.pfc_read.specs.Ends as ends
-use Rattle.pfc_read.specs.OpView.{OpView, held}
+use Rattle.pfc_read.specs.OpView.{OpView}
 use Rattle.pfc_actor.specs.Books.{BookView, IsNext, file_in}
 use Rattle.pfc_actor.specs.StageView.{Rest, Ending}
-use Rattle.pfc_actor.specs.Stages.{no_shares, op_shares}
 use Rattle.pfc_actor.specs.Steps.{Step, Knows}
-use Rattle.pfc_actor.proofs.Entering.{Gained, HasRoom}
+use Rattle.pfc_actor.proofs.Entering.{Gained}
 use Rattle.pfc_actor.proofs.Going.{ended_step, shares_here, none_more}
-use Rattle.pfc_actor.proofs.Holding.{of_file, sees_self}
+use Rattle.pfc_actor.proofs.Holding.{of_file}
 
 abbrev pub served_gain : Served → Tally
 served_gain s = record nothing { served = 1; hit = s.hit; missed = s.missed; bypassed = s.bypassed }

@@ -1,6 +1,6 @@
 -- The steps of a read.
-use Rattle.std.proofs.Common.{◌≡◌, ℕ, ◌+◌, ◌*◌, ◌≤◌, ◌<◌, List, [], ◌∷◌, ◌++◌, refl, sym, ap, ◌∙◌, subst, arith, Bool, true, false, inl, inr, append_assoc}
-use Rattle.std.specs.Prelude.{◌⊎◌, Option, Some, None, Ok, ◌==◌, sum_by, if◌then◌else◌, slice_get}
+use Rattle.std.proofs.Common.{◌≡◌, ℕ, ◌+◌, ◌*◌, ◌≤◌, ◌<◌, List, [], ◌∷◌, ◌++◌, refl, sym, ap, ◌∙◌, subst, arith, Bool, true, false, inl, inr}
+use Rattle.std.specs.Prelude.{◌⊎◌, Option, Some, Ok, ◌==◌, sum_by, if◌then◌else◌, slice_get}
 use Rattle.pfc_base.specs.declared.block.Part.{Part}
 use Rattle.pfc_base.specs.declared.block.Piece.{Piece}
 use Rattle.pfc_world.specs.Counts.{Rose, RoseBy, add_count, last_count}
@@ -9,7 +9,6 @@ use Rattle.pfc_log.specs.declared.entry.Entry.{Entry}
 use Rattle.pfc_log.specs.declared.entry.Entry.TheVariants as e
 use Rattle.pfc_log.specs.declared.entry.Fell.{Fell}
 use Rattle.pfc_log.specs.declared.entry.Fell.TheVariants as fell
-use Rattle.pfc_log.specs.declared.entry.Served.{Served}
 use Rattle.pfc_log.specs.declared.entry.Way.TheVariants as way
 use Rattle.pfc_log.specs.Owners.{owners, is_client}
 use Rattle.pfc_log.specs.Tallies.{Tally, tally, together, gain, nothing}
@@ -27,9 +26,7 @@ use Rattle.pfc_core.specs.Line as line
 use Rattle.pfc_core.specs.LineView.{LineView}
 use Rattle.pfc_core.specs.Looks.{LeavesFor}
 use Rattle.pfc_core.specs.Marks.{Mark, sees}
-use Rattle.pfc_core.specs.View.{CoreView, entered}
-use Rattle.pfc_read.specs.Ends.{EndsRead, with_served}
-use Rattle.pfc_read.specs.Ends as ends
+use Rattle.pfc_core.specs.View.{CoreView}
 use Rattle.pfc_read.specs.Fills.{Owes}
 use Rattle.pfc_read.specs.OpView.{OpView, held, first_met, Nothing}
 use Rattle.pfc_read.specs.Plans.{Plans, with_asked}
@@ -37,10 +34,10 @@ use Rattle.pfc_read.specs.Steps.{GivesTicket, GivesLeave, GivesPin, GivesEnd}
 use Rattle.pfc_actor.specs.Books.{BookView, IsNext, open_weight}
 use Rattle.pfc_actor.specs.StageView.{StageView, Rest, Planning, Reading, Landed, Full, Running, Directing, Looking, Ending}
 use Rattle.pfc_actor.specs.Stages.{Shares, shares, no_shares, op_shares, weight, stage_weight, owed, asking, failing}
-use Rattle.pfc_actor.specs.Steps.{IsTallied, Shrinks, Own, Step, Knows}
+use Rattle.pfc_actor.specs.Steps.{Shrinks, Own, Step, Knows}
 use Rattle.pfc_actor.proofs.Tallied.{GoesOn, Answers, counted, made, quiet, told}
 use Rattle.pfc_actor.proofs.Steps.{shrinks_same}
-use Rattle.pfc_actor.proofs.Entering.{Gained, gained_one, gained_same, HasRoom, step_on}
+use Rattle.pfc_actor.proofs.Entering.{Gained, gained_one, HasRoom, step_on}
 use Rattle.pfc_actor.proofs.Cores.{still_home, own_step}
 
 -- the stage is one of this read

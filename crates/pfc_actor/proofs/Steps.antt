@@ -1,19 +1,19 @@
 -- The steps of a client.
-use Rattle.std.proofs.Common.{◌≡◌, ℕ, ◌+◌, ◌≤◌, ◌<◌, List, [], ◌∷◌, ◌++◌, refl, sym, ap, ◌∙◌, subst, arith, Bool, true, false}
+use Rattle.std.proofs.Common.{◌≡◌, ℕ, ◌+◌, ◌≤◌, [], ◌∷◌, ◌++◌, refl, ap, arith, Bool, false}
 use Rattle.std.specs.Prelude.{Result, if◌then◌else◌}
 use Rattle.pfc_world.specs.Counts.{RoseBy, add_count}
 use Rattle.pfc_log.specs.Tallies.{Tally}
 use Rattle.pfc_client.specs.declared.request.Request.{Request}
 use Rattle.pfc_client.specs.declared.request.RequestRefusal.{RequestRefusal}
 use Rattle.pfc_client.specs.declared.reply.Reply.{Reply}
-use Rattle.pfc_client.specs.Told.{stats_at, lost_at, is_size, is_data, bytes_in}
+use Rattle.pfc_client.specs.Told.{stats_at, is_size, is_data, bytes_in}
 use Rattle.pfc_core.specs.Marks.{Mark}
 use Rattle.pfc_core.specs.LineView.{LineView}
 use Rattle.pfc_actor.specs.Books.{BookView, IsNext, open_weight}
 use Rattle.pfc_actor.specs.StageView.{StageView, Rest}
-use Rattle.pfc_actor.specs.Stages.{Shares, no_shares, shares, weight, stage_weight, owed, asking, failing}
+use Rattle.pfc_actor.specs.Stages.{Shares, no_shares, shares, stage_weight, owed, asking, failing}
 use Rattle.pfc_actor.specs.Steps.{Own, Shrinks}
-use Rattle.pfc_actor.proofs.Tallied.{Answers, GoesOn, made, told, quiet}
+use Rattle.pfc_actor.proofs.Tallied.{Answers, made, told}
 
 pub shrinks_same : (s : Shares) → Shrinks s s
 shrinks_same s = record { hits = omega arith; waits = omega arith; directs = omega arith }

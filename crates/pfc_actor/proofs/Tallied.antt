@@ -1,22 +1,21 @@
 -- A client's tally goes on with its replies, its line and its stage.
-use Rattle.std.proofs.Common.{◌≡◌, ℕ, ◌+◌, ◌≤◌, ◌<◌, List, [], ◌∷◌, ◌++◌, length, refl, sym, ap, ◌∙◌, subst, arith, Bool, true, false}
-use Rattle.std.specs.Prelude.{Some, slice_get, sum_by, count_by, Result, if◌then◌else◌}
+use Rattle.std.proofs.Common.{◌≡◌, ℕ, ◌+◌, ◌≤◌, ◌<◌, List, [], ◌∷◌, ◌++◌, length, ap, ◌∙◌, arith}
+use Rattle.std.specs.Prelude.{Result, if◌then◌else◌}
 use Rattle.std.proofs.Math.ListN.{get_or}
 use Rattle.std.proofs.lemmas.List.Sums.{sum_by_push}
 use Rattle.std.proofs.lemmas.Option.{slice_get-get_or}
 use Rattle.pfc_world.specs.Counts.{RoseBy, add_count, last_count}
-use Rattle.pfc_log.specs.Tallies.{Tally, together, tally}
+use Rattle.pfc_log.specs.Tallies.{Tally}
 use Rattle.pfc_client.specs.declared.request.Request.{Request}
 use Rattle.pfc_client.specs.declared.request.RequestRefusal.{RequestRefusal}
 use Rattle.pfc_client.specs.declared.reply.Reply.{Reply}
-use Rattle.pfc_client.specs.Requests.{request_of}
-use Rattle.pfc_client.specs.Told.{stats, lost, opens, reads, bytes, stats_at, lost_at, is_size, is_data, bytes_in}
+use Rattle.pfc_client.specs.Told.{stats, lost, stats_at, lost_at, is_size, is_data, bytes_in}
 use Rattle.pfc_client.proofs.Telling.{stats_more, lost_more}
 use Rattle.pfc_core.specs.LineView.{LineView}
 use Rattle.pfc_actor.specs.Books.{BookView, IsNext}
 use Rattle.pfc_actor.specs.StageView.{StageView}
 use Rattle.pfc_actor.specs.Stages.{owed, asking, failing}
-use Rattle.pfc_actor.specs.Steps.{IsTallied, known_calls}
+use Rattle.pfc_actor.specs.Steps.{IsTallied}
 
 -- a count that isn't at its end rose by all that was added
 pub counted : (a n b : ℕ) → b ≡ add_count a n → b < last_count → b ≡ a + n

@@ -1,14 +1,12 @@
 -- What a client at a stage of its work holds and owes.
-use Rattle.std.specs.Prelude.{◌≡◌, ℕ, ◌+◌, ◌*◌, ◌<◌, ◌≤◌, ◌==◌, Bool, true, false, List, length, count_by, Option, Some, None, slice_get, Result, Ok, if◌then◌else◌}
+use Rattle.std.specs.Prelude.{◌≡◌, ℕ, ◌+◌, ◌<◌, ◌≤◌, ◌==◌, true, false, List, length, Option, Some, Ok, if◌then◌else◌}
 use Rattle.pfc_base.specs.declared.block.Piece.{Piece}
 use Rattle.pfc_log.specs.declared.entry.Fell.{Fell}
-use Rattle.pfc_log.specs.declared.entry.Fell.TheVariants.{Fault, Memory}
+use Rattle.pfc_log.specs.declared.entry.Fell.TheVariants.{Fault}
 use Rattle.pfc_client.specs.declared.request.Request.{Request}
 use Rattle.pfc_client.specs.declared.request.Request.TheVariants as q
-use Rattle.pfc_client.specs.declared.request.RequestRefusal.{RequestRefusal}
-use Rattle.pfc_client.specs.Requests.{request_of}
 use Rattle.pfc_client.specs.Session.{place_at, is_free}
-use Rattle.pfc_client.specs.Permitted.{most_bytes, is_fetch}
+use Rattle.pfc_client.specs.Permitted.{most_bytes}
 use Rattle.pfc_core.specs.Marks.{Mark, TicketKind}
 use Rattle.pfc_core.specs.View.{CoreView}
 use Rattle.pfc_read.specs.OpView.{OpView, Given, Nothing, ToRun, ToFill, ToLook, ToEnd, held}

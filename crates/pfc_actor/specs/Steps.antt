@@ -1,5 +1,5 @@
 -- What a step of a client keeps.
-use Rattle.std.specs.Prelude.{◌≡◌, ℕ, ◌+◌, ◌*◌, ◌<◌, ◌≤◌, ◌==◌, false, List, length, count_by, sum_by}
+use Rattle.std.specs.Prelude.{◌≡◌, ℕ, ◌+◌, ◌*◌, ◌<◌, ◌≤◌, ◌==◌, false, count_by, sum_by}
 use Rattle.pfc_world.specs.Counts.{RoseBy, last_count}
 use Rattle.pfc_log.specs.Tallies.{Tally, tally, together}
 use Rattle.pfc_client.specs.Told.{stats, lost, opens, reads, bytes}

@@ -11,3 +11,6 @@ mod taking;
 pub use book::Book;
 pub use client::{Client, Place};
 pub use stage::{Stage, Wanted};
+
+#[cfg(test)]
+mod tests;

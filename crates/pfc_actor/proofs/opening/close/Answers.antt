@@ -1,4 +1,4 @@
-use Rattle.std.proofs.Common.{refl, ap, sym, ◌∙◌, arith}
+use Rattle.std.proofs.Common.{ap, sym, ◌∙◌, arith}
 use Rattle.pfc_core.specs.Marks.{sees}
 use Rattle.pfc_actor.specs.StageView as st
 use Rattle.pfc_actor.specs.Books.{BookView}

@@ -1,5 +1,5 @@
-use Rattle.std.proofs.Common.{ap, sym, ◌∙◌, arith, ◌≡◌, ℕ}
-use Rattle.std.specs.Prelude.{Option, Some, option_map}
+use Rattle.std.proofs.Common.{ap, sym, ◌∙◌, arith, ◌≡◌}
+use Rattle.std.specs.Prelude.{Some, option_map}
 use Rattle.pfc_core.specs.Marks.{Mark, sees}
 use Rattle.pfc_actor.specs.StageView as st
 use Rattle.pfc_actor.specs.Books.{BookView}

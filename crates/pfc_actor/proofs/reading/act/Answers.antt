@@ -1,5 +1,4 @@
-use Rattle.std.proofs.Common.{◌∙◌, refl}
-use Rattle.pfc_actor.specs.StageView as st
+use Rattle.std.proofs.Common.{refl}
 use Rattle.pfc_actor.proofs.Cores.{own_step}
 use Rattle.pfc_actor.proofs.Going.{run_next, direct_next, look_next, end_next, own_own, own_then_step, knows_on}
 use Rattle.pfc_actor.proofs.reading.act.Goals as goal

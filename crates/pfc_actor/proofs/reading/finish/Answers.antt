@@ -1,5 +1,4 @@
-use Rattle.std.proofs.Common.{refl, ◌≡◌, ◌∙◌, ap, sym, subst, arith, ℕ, List}
-use Rattle.pfc_client.specs.Permitted.{Permits}
+use Rattle.std.proofs.Common.{refl, sym, subst, ℕ, List}
 use Rattle.pfc_read.specs.Ends.{IsData}
 use Rattle.pfc_actor.proofs.Ending.{served_step, unserved_step, its_bytes, its_fetch, none_of}
 use Rattle.pfc_actor.proofs.reading.finish.Goals as goal

@@ -1,5 +1,4 @@
 use Rattle.std.proofs.Common.{◌∙◌, arith}
-use Rattle.pfc_core.specs.Marks.{sees}
 use Rattle.pfc_actor.specs.StageView as st
 use Rattle.pfc_actor.proofs.Holding.{no_stranger}
 use Rattle.pfc_actor.proofs.Going.{looked_step, lost_step}

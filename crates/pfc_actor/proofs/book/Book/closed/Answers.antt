@@ -1,9 +1,8 @@
-use Rattle.std.proofs.Common.{◌≡◌, ◌<◌, ℕ, List, length, arith, ap, sym, subst, ◌∙◌, true}
-use Rattle.std.specs.Prelude.{Some, slice_get, Ok, IsSome}
+use Rattle.std.proofs.Common.{arith, ap, sym, subst, ◌∙◌}
+use Rattle.std.specs.Prelude.{Ok, IsSome}
 use Rattle.pfc_client.specs.declared.request.Request.TheVariants as q
-use Rattle.pfc_client.specs.Requests.{request_of}
 use Rattle.pfc_client.specs.Session.{place_at}
-use Rattle.pfc_actor.specs.Books.{BookView, IsNext, IsStay}
+use Rattle.pfc_actor.specs.Books.{BookView, IsNext}
 use Rattle.pfc_actor.proofs.Books.{closed}
 use Rattle.pfc_actor.proofs.book.Book.closed.Goals as goal
 

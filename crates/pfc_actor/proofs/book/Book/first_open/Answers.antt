@@ -1,4 +1,4 @@
-use Rattle.std.proofs.Common.{◌<◌, ℕ, arith}
+use Rattle.std.proofs.Common.{arith}
 use Rattle.pfc_actor.proofs.Books.{none_left}
 use Rattle.pfc_actor.proofs.book.Book.first_open.Goals as goal
 

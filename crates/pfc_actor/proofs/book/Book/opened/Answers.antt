@@ -1,7 +1,6 @@
-use Rattle.std.proofs.Common.{◌≡◌, ◌<◌, ℕ, List, length, arith, ap, sym, subst, ◌∙◌, true}
-use Rattle.std.specs.Prelude.{Some, slice_get, Ok}
+use Rattle.std.proofs.Common.{arith, ap, sym, subst, ◌∙◌}
+use Rattle.std.specs.Prelude.{Ok}
 use Rattle.pfc_client.specs.declared.request.Request.TheVariants as q
-use Rattle.pfc_client.specs.Requests.{request_of}
 use Rattle.pfc_client.specs.Session.{is_free}
 use Rattle.pfc_actor.specs.Books.{BookView, IsNext, IsStay}
 use Rattle.pfc_actor.proofs.Books.{opened}
