@@ -1,0 +1,13 @@
+-- What contracts see of a store and of its two halves.
+use Rattle.std.specs.Prelude.{ℕ, Bool, List, Option}
+use Rattle.pfc_store.specs.declared.broken.Broken.{Broken}
+
+-- the half with the data: which blocks of the file are written, which of them are durable, and the failure that froze it
+pub record DataView (D : Type 0) : Type 0 where
+  pub device : D
+  pub path : List ℕ
+  pub size : ℕ
+  pub block_size : ℕ
+  pub durable : List Bool
+  pub written : List Bool
+  pub frozen : Option Broken

@@ -1,0 +1,44 @@
+/// A device's count of faults before and after the call that failed.
+#[derive(Clone, Copy, Debug, PartialEq, Eq, Drop)]
+pub struct Broken {
+    pub before: u64,
+    pub after: u64,
+}
+
+/// What became of a block that was to be written.
+#[derive(Clone, Copy, Debug, PartialEq, Eq, Drop)]
+pub enum Put {
+    /// It was written.
+    Wrote,
+    /// It had been written before, and nothing was done.
+    AlreadyThere,
+}
+
+/// Why a part was not read.
+#[derive(Clone, Copy, Debug, PartialEq, Eq, Drop)]
+pub enum ReadRefusal {
+    /// The block isn't written.
+    Absent,
+    /// The device failed before, and the block isn't durable.
+    Frozen(Broken),
+    /// The device failed in this read. That alone freezes nothing.
+    Device(Broken),
+}
+
+/// Why a block was not written.
+#[derive(Clone, Copy, Debug, PartialEq, Eq, Drop)]
+pub enum WriteRefusal {
+    /// A device failed before.
+    Frozen(Broken),
+    /// The device failed in this write.
+    Device(Broken),
+}
+
+/// Why the data was not synced.
+#[derive(Clone, Copy, Debug, PartialEq, Eq, Drop)]
+pub enum SyncRefusal {
+    /// A device failed before.
+    Frozen(Broken),
+    /// The device failed in this sync.
+    Device(Broken),
+}

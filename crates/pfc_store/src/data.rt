@@ -1,0 +1,134 @@
+// The half of a store that has the data.
+ghost use Rattle.std.specs.Prelude.{◌≡◌, ◌+◌, ◌*◌, ◌<◌, ◌≤◌, ◌^◌, length, IsTrue, OnOk};
+ghost use Rattle.pfc_base.specs.Block.{IsPartOf};
+ghost use Rattle.pfc_world.specs.Files.{Holds};
+ghost use Rattle.pfc_world.specs.Run.{moment};
+ghost use Rattle.pfc_store.specs.Blocks.{OfFile, SolidSince};
+ghost use Rattle.pfc_store.specs.Data.{Reads, Writes, Syncs};
+
+use crate::{Broken, Put, ReadRefusal, SyncRefusal, WriteRefusal};
+use pfc_base::{BlockSet, Part};
+use pfc_world::{Block, DataDev, Fault, Known, World};
+use std::marker::Model;
+
+/// The data of a file on its device: which blocks are written, and which of them a crash can't take. It never writes a
+/// block again. Once a write or a sync has failed it is frozen for good: it reads durable blocks alone and writes none.
+#[derive(Drop)]
+pub struct DataHalf<W: World, D: DataDev<W>> {
+    device: D,
+    known: Known<W>,
+    block_size: u64,
+    durable: BlockSet,
+    written: BlockSet,
+    frozen: Option<Broken>,
+}
+
+impl<W: World, D: DataDev<W>> Model for DataHalf<W, D> {
+    ghost use Rattle.pfc_store.specs.Views.{DataView};
+    ghost use Rattle.pfc_store.specs.Blocks.{IsDataHalf};
+
+    ghost Value = { DataView D };
+
+    ghost view = { λ h. record { device = h.device; path = h.known.path; size = h.known.size; block_size = h.block_size; durable = h.durable; written = h.written; frozen = h.frozen } };
+
+    ghost invariant = { λ h. IsDataHalf W.told W.files D.told h.known.path h.known.size h.block_size h.durable h.written h.frozen (D.DataDev.seen h.device).now };
+}
+
+/// The place of a byte in a block.
+fn place_of(block: u32, block_size: u64, from: u32) -> u64
+    requires block { block < 16777216 }
+    requires block_size { block_size ≤ 16777216 }
+    ensures { result ≡ block * block_size + from }
+{
+    u64::from(block) * block_size + u64::from(from)
+}
+
+impl<W: World, D: DataDev<W>> DataHalf<W, D> {
+    /// Reads a part of a block into a slice of the part's length, by one call on the device.
+    pub fn read_part(&mut self, part: Part, into: &mut [u8]) -> Result<(), ReadRefusal>
+        requires part { IsPartOf self.old.size self.old.block_size part }
+        requires into { length into.old ≡ part.len }
+        ensures exact { Reads D.faults self.old part.block result self.new }
+        ensures bytes { OnOk result (IsTrue D.told → Holds W.told W.files self.old.path (part.block * self.old.block_size + part.from) into.new) }
+        ensures same { IsTrue D.told → D.seen self.new.device ≡ D.seen self.old.device }
+        ensures faults { D.faults self.old.device ≤ D.faults self.new.device }
+    {
+        if !self.written.test(part.block) {
+            return Err(ReadRefusal::Absent);
+        }
+        if let Some(broken) = self.frozen {
+            if !self.durable.test(part.block) {
+                return Err(ReadRefusal::Frozen(broken));
+            }
+        }
+        let at = place_of(part.block, self.block_size, part.from);
+        let before = self.device.faults();
+        if let Err(Fault) = self.device.read_at(at, into) {
+            let after = self.device.faults();
+            return Err(ReadRefusal::Device(Broken { before, after }));
+        }
+        Ok(())
+    }
+
+    /// Writes a block of this file and block size that isn't written yet, by one call on the device.
+    pub fn write_block(&mut self, block: &Block<W>) -> Result<Put, WriteRefusal>
+        requires path { block.now.known.path ≡ self.old.path }
+        requires size { block.now.known.size ≡ self.old.size }
+        requires block_size { block.now.block_size ≡ self.old.block_size }
+        ensures exact { Writes D.faults self.old block.now.number result self.new }
+        ensures solid { OfFile W.told W.files self.old.path (λ file. IsTrue D.told → SolidSince file self.old.block_size self.old.durable (D.seen self.new.device) (moment (D.seen self.old.device))) }
+        ensures faults { D.faults self.old.device ≤ D.faults self.new.device }
+    {
+        match self.frozen {
+            Some(broken) => return Err(WriteRefusal::Frozen(broken)),
+            None => {}
+        }
+        let number = block.number();
+        if self.written.test(number) {
+            return Ok(Put::AlreadyThere);
+        }
+        let at = place_of(number, self.block_size, 0);
+        let before = self.device.faults();
+        match self.device.write_at(at, block.bytes()) {
+            Ok(()) => {
+                self.written.set(number);
+                Ok(Put::Wrote)
+            }
+            Err(Fault) => {
+                let broken = Broken {
+                    before,
+                    after: self.device.faults(),
+                };
+                self.frozen = Some(broken);
+                Err(WriteRefusal::Device(broken))
+            }
+        }
+    }
+
+    /// Makes each written block durable.
+    pub fn sync_data(&mut self) -> Result<(), SyncRefusal>
+        ensures exact { Syncs D.faults self.old result self.new }
+        ensures solid { OfFile W.told W.files self.old.path (λ file. IsTrue D.told → SolidSince file self.old.block_size self.old.durable (D.seen self.new.device) (moment (D.seen self.old.device))) }
+        ensures faults { D.faults self.old.device ≤ D.faults self.new.device }
+    {
+        match self.frozen {
+            Some(broken) => return Err(SyncRefusal::Frozen(broken)),
+            None => {}
+        }
+        let before = self.device.faults();
+        match self.device.sync() {
+            Ok(()) => {
+                self.durable.copy_from(&self.written);
+                Ok(())
+            }
+            Err(Fault) => {
+                let broken = Broken {
+                    before,
+                    after: self.device.faults(),
+                };
+                self.frozen = Some(broken);
+                Err(SyncRefusal::Device(broken))
+            }
+        }
+    }
+}
