@@ -1,3 +1,5 @@
 pub mod Blocks
+pub mod Claims
 pub mod Data
+pub mod Info
 pub mod Views

@@ -1,3 +1,5 @@
+use pfc_base::Memory;
+
 /// A device's count of faults before and after the call that failed.
 #[derive(Clone, Copy, Debug, PartialEq, Eq, Drop)]
 pub struct Broken {
@@ -41,4 +43,26 @@ pub enum SyncRefusal {
     Frozen(Broken),
     /// The device failed in this sync.
     Device(Broken),
+}
+
+/// Why no cinfo was put.
+#[derive(Clone, Copy, Debug, PartialEq, Eq, Drop)]
+pub enum InfoPutRefusal {
+    /// Memory was refused, before any call on the device.
+    Memory,
+    /// A device failed before.
+    Frozen(Broken),
+    /// The device failed in this put. The main file is the old one or the new one.
+    Device(Broken),
+}
+
+impl From<Memory> for InfoPutRefusal {
+    ghost use Rattle.std.specs.Prelude.{◌≡◌};
+    ghost use Rattle.pfc_store.specs.declared.broken.InfoPutRefusal.TheVariants as refusals;
+
+    ghost from_gives = { λ _ e. e ≡ refusals.Memory };
+
+    fn from(_: Memory) -> Self {
+        InfoPutRefusal::Memory
+    }
 }

@@ -3,6 +3,8 @@
 
 mod broken;
 mod data;
+mod info;
 
-pub use broken::{Broken, Put, ReadRefusal, SyncRefusal, WriteRefusal};
+pub use broken::{Broken, InfoPutRefusal, Put, ReadRefusal, SyncRefusal, WriteRefusal};
 pub use data::DataHalf;
+pub use info::InfoHalf;
