@@ -1,2 +1,3 @@
 pub mod Mains
+pub mod Sound
 pub mod Stored

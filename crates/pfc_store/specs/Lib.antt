@@ -2,4 +2,6 @@ pub mod Blocks
 pub mod Claims
 pub mod Data
 pub mod Info
+pub mod Moments
+pub mod Store
 pub mod Views

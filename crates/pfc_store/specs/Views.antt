@@ -24,3 +24,17 @@ pub record InfoView (I : Type 0) : Type 0 where
   pub claimed : List Bool
   pub due : List Bool
   pub frozen : Option Broken
+
+-- The store: both devices, the file, the head that the opening found or made, three sets of blocks, each in the next
+-- one, and the failure that froze it.
+pub record StoreView (D I : Type 0) : Type 0 where
+  pub first : D
+  pub second : I
+  pub path : List ℕ
+  pub size : ℕ
+  pub block_size : ℕ
+  pub head : Head
+  pub claimed : List Bool
+  pub durable : List Bool
+  pub written : List Bool
+  pub frozen : Option Broken

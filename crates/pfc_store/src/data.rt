@@ -1,6 +1,7 @@
 // The half of a store that has the data.
 ghost use Rattle.std.specs.Prelude.{◌≡◌, ◌+◌, ◌*◌, ◌<◌, ◌≤◌, ◌^◌, length, IsTrue, OnOk};
-ghost use Rattle.pfc_base.specs.Block.{IsPartOf};
+ghost use Rattle.pfc_base.specs.Block.{IsPartOf, count_of};
+ghost use Rattle.pfc_base.specs.BlockSet.{IsWithin};
 ghost use Rattle.pfc_world.specs.Files.{Holds};
 ghost use Rattle.pfc_world.specs.Run.{moment};
 ghost use Rattle.pfc_store.specs.Blocks.{OfFile, SolidSince};
@@ -130,5 +131,67 @@ impl<W: World, D: DataDev<W>> DataHalf<W, D> {
                 Err(SyncRefusal::Device(broken))
             }
         }
+    }
+
+    /// What the type keeps: the sets are as long as the file has blocks, and whatever a crash leaves has each durable
+    /// block.
+    pub fn keeps(&self)
+        ensures written { length self.now.written ≡ count_of self.now.size self.now.block_size }
+        ensures durable { length self.now.durable ≡ count_of self.now.size self.now.block_size }
+        ensures nested { IsWithin self.now.durable self.now.written }
+        ensures solid { OfFile W.told W.files self.now.path (λ file. IsTrue D.told → SolidSince file self.now.block_size self.now.durable (D.seen self.now.device) (moment (D.seen self.now.device))) }
+    {
+        let _ = &self.device;
+    }
+
+    /// The file.
+    pub fn known(&self) -> &Known<W>
+        ensures path { result.now.path ≡ self.now.path }
+        ensures size { result.now.size ≡ self.now.size }
+    {
+        &self.known
+    }
+
+    /// The block size in bytes.
+    pub fn block_size(&self) -> u64
+        ensures { result ≡ self.now.block_size }
+    {
+        self.block_size
+    }
+
+    /// The blocks that no crash can take.
+    pub fn durable(&self) -> &BlockSet
+        ensures { result.now ≡ self.now.durable }
+    {
+        &self.durable
+    }
+
+    /// The blocks that are written.
+    pub fn written(&self) -> &BlockSet
+        ensures { result.now ≡ self.now.written }
+    {
+        &self.written
+    }
+
+    /// The failure that froze it.
+    pub fn frozen(&self) -> Option<Broken>
+        ensures { result ≡ self.now.frozen }
+    {
+        self.frozen
+    }
+
+    /// Freezes it like the other half. It never thaws.
+    pub(crate) fn freeze(&mut self, frozen: Option<Broken>)
+        requires { frozen ≡ None → self.old.frozen ≡ None }
+        ensures { self.new ≡ record self.old { frozen = frozen } }
+    {
+        self.frozen = frozen;
+    }
+
+    /// The device alone.
+    pub(crate) fn into_device(self) -> D
+        ensures { result ≡ self.device }
+    {
+        self.device
     }
 }

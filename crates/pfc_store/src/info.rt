@@ -1,5 +1,6 @@
 // The half of a store that has the cinfo.
 ghost use Rattle.std.specs.Prelude.{◌≡◌, ◌≤◌, ℕ, true, List, Option, length, is_ok, IsTrue, OnOk};
+ghost use Rattle.pfc_base.specs.Block.{count_of};
 ghost use Rattle.pfc_base.specs.BlockSet.{IsWithin};
 ghost use Rattle.pfc_world.specs.Counts.{HasCause};
 ghost use Rattle.pfc_world.specs.Run.{moment};
@@ -96,5 +97,66 @@ impl<W: World, I: InfoDev<W>> InfoHalf<W, I> {
         ensures { self.new ≡ record self.old { frozen = frozen } }
     {
         self.frozen = frozen;
+    }
+
+    /// What the type keeps: the sets are as long as the file has blocks, and whatever main file a crash leaves claims at
+    /// least what is claimed and at most what is due.
+    pub fn keeps(&self)
+        ensures due { length self.now.due ≡ count_of self.now.size self.now.block_size }
+        ensures claimed { length self.now.claimed ≡ count_of self.now.size self.now.block_size }
+        ensures nested { IsWithin self.now.claimed self.now.due }
+        ensures within { IsTrue I.told → WithinSince self.now.size self.now.block_size self.now.claimed self.now.due (I.seen self.now.device) (moment (I.seen self.now.device)) }
+    {
+        let _ = &self.device;
+    }
+
+    /// The file.
+    pub fn known(&self) -> &Known<W>
+        ensures path { result.now.path ≡ self.now.path }
+        ensures size { result.now.size ≡ self.now.size }
+    {
+        &self.known
+    }
+
+    /// The block size in bytes.
+    pub fn block_size(&self) -> u64
+        ensures { result ≡ self.now.block_size }
+    {
+        self.block_size
+    }
+
+    /// The head that the opening found in the main file, or made.
+    pub fn head(&self) -> &Head
+        ensures { result.now ≡ self.now.head }
+    {
+        &self.head
+    }
+
+    /// The blocks that every main file claims.
+    pub fn claimed(&self) -> &BlockSet
+        ensures { result.now ≡ self.now.claimed }
+    {
+        &self.claimed
+    }
+
+    /// The blocks that the next cinfo is to claim.
+    pub fn due(&self) -> &BlockSet
+        ensures { result.now ≡ self.now.due }
+    {
+        &self.due
+    }
+
+    /// The failure that froze it.
+    pub fn frozen(&self) -> Option<Broken>
+        ensures { result ≡ self.now.frozen }
+    {
+        self.frozen
+    }
+
+    /// The device alone.
+    pub(crate) fn into_device(self) -> I
+        ensures { result ≡ self.device }
+    {
+        self.device
     }
 }

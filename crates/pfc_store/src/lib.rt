@@ -4,7 +4,9 @@
 mod broken;
 mod data;
 mod info;
+mod store;
 
 pub use broken::{Broken, InfoPutRefusal, Put, ReadRefusal, SyncRefusal, WriteRefusal};
 pub use data::DataHalf;
 pub use info::InfoHalf;
+pub use store::{FileStore, Unjoined, join};
