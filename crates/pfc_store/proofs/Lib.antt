@@ -1,3 +1,4 @@
 pub mod Mains
 pub mod Sound
 pub mod Stored
+pub mod Volumes

@@ -26,13 +26,15 @@ stands_slice list at (b ∷ bytes) stands = same_number_lists _ (b ∷ bytes) lo
 -- of one image with one main file
 pub sound_of : (file : List ℕ) (size k : ℕ) (solid low high : List Bool) → IsWithin high solid → (image : List ℕ) (main : Option (List ℕ)) → HasBlocks file k solid image → MainBetween size k low high main → IsSound image main file
 sound_of file size k solid low high nested image None has between = record { held = λ bytes c there. let e : None ≡ Some bytes = there in absurd (cc) }
-sound_of file size k solid low high nested image (Some main) has (its, is, claims) = record { held = λ bytes c there says its_size i in_claims.
-    let e : Some main ≡ Some bytes = there in
-    let same_bytes : bytes ≡ main = cc in
-    let same : its ≡ c = cinfo_in-is main its is ∙ sym (cinfo_in-is main c (subst (λ b. IsCinfo b c) same_bytes says)) in
-    let its_k : k ≡ c.block = sym claims.block_is ∙ ap (λ (d : Cinfo). d.block) same in
-    let in_solid : is_member solid i ≡ true = nested i (claims.within i (subst (λ (d : Cinfo). is_member d.claims i ≡ true) (sym same) in_claims)) in
-    subst (λ b. slice_of image (i * b) (length (block_of file b i)) ≡ block_of file b i) its_k (stands_slice image (i * k) (block_of file k i) (has i in_solid)) }
+sound_of file size k solid low high nested image (Some main) has (its, is, claims) = record {
+  held = λ bytes c there says its_size i in_claims.
+      let e : Some main ≡ Some bytes = there in
+      let same_bytes : bytes ≡ main = cc in
+      let same : its ≡ c = cinfo_in-is main its is ∙ sym (cinfo_in-is main c (subst (λ b. IsCinfo b c) same_bytes says)) in
+      let its_k : k ≡ c.block = sym claims.block_is ∙ ap (λ (d : Cinfo). d.block) same in
+      let in_solid : is_member solid i ≡ true = nested i (claims.within i (subst (λ (d : Cinfo). is_member d.claims i ≡ true) (sym same) in_claims)) in
+      subst (λ b. slice_of image (i * b) (length (block_of file b i)) ≡ block_of file b i) its_k (stands_slice image (i * k) (block_of file k i) (has i in_solid));
+}
 
 pub stays_sound : {D I : Type 0} (told : Bool) (files : Files) (tells_data tells_info : Bool) (data_run : D → Run Disk) (info_run : I → Run Info) (old new : StoreView D I)
     → OfFile told files old.path (λ file. IsTrue tells_data → SolidSince file old.block_size old.durable (data_run new.first) (moment (data_run old.first)))

@@ -4,4 +4,5 @@ pub mod Data
 pub mod Info
 pub mod Moments
 pub mod Store
+pub mod Volume
 pub mod Views

@@ -38,3 +38,8 @@ pub record StoreView (D I : Type 0) : Type 0 where
   pub durable : List Bool
   pub written : List Bool
   pub frozen : Option Broken
+
+-- a volume without a main file
+pub record BareView (D I : Type 0) : Type 0 where
+  pub first : D
+  pub second : I

@@ -66,3 +66,34 @@ impl From<Memory> for InfoPutRefusal {
         InfoPutRefusal::Memory
     }
 }
+
+/// Why a volume was not surveyed.
+#[derive(Clone, Copy, Debug, PartialEq, Eq, Drop)]
+pub enum SurveyRefusal {
+    /// One of the devices failed in this survey.
+    Device(Broken),
+    /// Memory was refused.
+    Memory,
+}
+
+impl From<Broken> for SurveyRefusal {
+    ghost use Rattle.std.specs.Prelude.{◌≡◌};
+    ghost use Rattle.pfc_store.specs.declared.broken.SurveyRefusal.TheVariants as refusals;
+
+    ghost from_gives = { λ broken e. e ≡ refusals.Device broken };
+
+    fn from(broken: Broken) -> Self {
+        SurveyRefusal::Device(broken)
+    }
+}
+
+impl From<Memory> for SurveyRefusal {
+    ghost use Rattle.std.specs.Prelude.{◌≡◌};
+    ghost use Rattle.pfc_store.specs.declared.broken.SurveyRefusal.TheVariants as refusals;
+
+    ghost from_gives = { λ _ e. e ≡ refusals.Memory };
+
+    fn from(_: Memory) -> Self {
+        SurveyRefusal::Memory
+    }
+}

@@ -1,10 +1,12 @@
 // The half of a store that has the data.
-ghost use Rattle.std.specs.Prelude.{◌≡◌, ◌+◌, ◌*◌, ◌<◌, ◌≤◌, ◌^◌, length, IsTrue, OnOk};
+ghost use Rattle.std.specs.Prelude.{ℕ, List, ◌≡◌, ◌+◌, ◌*◌, ◌<◌, ◌≤◌, ◌^◌, length, IsTrue, OnOk};
 ghost use Rattle.pfc_base.specs.Block.{IsPartOf, count_of};
 ghost use Rattle.pfc_base.specs.BlockSet.{IsWithin};
+ghost use Rattle.pfc_cinfo.specs.Cinfo.{IsTiled};
+ghost use Rattle.pfc_world.specs.Disk.{IsImage};
 ghost use Rattle.pfc_world.specs.Files.{Holds};
 ghost use Rattle.pfc_world.specs.Run.{moment};
-ghost use Rattle.pfc_store.specs.Blocks.{OfFile, SolidSince};
+ghost use Rattle.pfc_store.specs.Blocks.{OfFile, HasBlocks, SolidSince};
 ghost use Rattle.pfc_store.specs.Data.{Reads, Writes, Syncs};
 
 use crate::{Broken, Put, ReadRefusal, SyncRefusal, WriteRefusal};
@@ -45,6 +47,29 @@ fn place_of(block: u32, block_size: u64, from: u32) -> u64
 }
 
 impl<W: World, D: DataDev<W>> DataHalf<W, D> {
+    /// The half of a device on which these blocks stand, whatever a crash leaves. `written` is an equal set.
+    pub(crate) fn new(
+        device: D,
+        known: Known<W>,
+        block_size: u64,
+        durable: BlockSet,
+        written: BlockSet,
+    ) -> DataHalf<W, D>
+        requires tiled { IsTiled block_size known.size (length durable) }
+        requires same { written ≡ durable }
+        requires stand { OfFile W.told W.files known.path (λ file. IsTrue D.told → (image : List ℕ) → IsImage (D.seen device).now image → HasBlocks file block_size durable image) }
+        ensures { result ≡ record { device = device; path = known.path; size = known.size; block_size = block_size; durable = durable; written = durable; frozen = None } }
+    {
+        DataHalf {
+            device,
+            known,
+            block_size,
+            durable,
+            written,
+            frozen: None,
+        }
+    }
+
     /// Reads a part of a block into a slice of the part's length, by one call on the device.
     pub fn read_part(&mut self, part: Part, into: &mut [u8]) -> Result<(), ReadRefusal>
         requires part { IsPartOf self.old.size self.old.block_size part }

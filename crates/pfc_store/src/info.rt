@@ -2,10 +2,11 @@
 ghost use Rattle.std.specs.Prelude.{◌≡◌, ◌≤◌, ℕ, true, List, Option, length, is_ok, IsTrue, OnOk};
 ghost use Rattle.pfc_base.specs.Block.{count_of};
 ghost use Rattle.pfc_base.specs.BlockSet.{IsWithin};
+ghost use Rattle.pfc_cinfo.specs.Cinfo.{IsTiled};
 ghost use Rattle.pfc_world.specs.Counts.{HasCause};
 ghost use Rattle.pfc_world.specs.Run.{moment};
 ghost use Rattle.pfc_world.specs.Info.{IsMain};
-ghost use Rattle.pfc_store.specs.Claims.{Says, Replaces, WithinSince};
+ghost use Rattle.pfc_store.specs.Claims.{Says, Replaces, WithinNow, WithinSince};
 ghost use Rattle.pfc_store.specs.Info.{Puts};
 
 use crate::{Broken, InfoPutRefusal};
@@ -53,6 +54,32 @@ fn replace_main<W: World, I: InfoDev<W>>(device: &mut I, bytes: &[u8]) -> Result
 }
 
 impl<W: World, I: InfoDev<W>> InfoHalf<W, I> {
+    /// The half of a settled device whose main files claim exactly this set. `due` is an equal set.
+    pub(crate) fn new(
+        device: I,
+        known: Known<W>,
+        block_size: u64,
+        head: Head,
+        claimed: BlockSet,
+        due: BlockSet,
+    ) -> InfoHalf<W, I>
+        requires tiled { IsTiled block_size known.size (length claimed) }
+        requires same { due ≡ claimed }
+        requires settled { IsTrue I.told → IsTrue (I.seen device).now.settled }
+        requires mains { IsTrue I.told → WithinNow known.size block_size claimed claimed (I.seen device).now }
+        ensures { result ≡ record { device = device; path = known.path; size = known.size; block_size = block_size; head = head; claimed = claimed; due = claimed; frozen = None } }
+    {
+        InfoHalf {
+            device,
+            known,
+            block_size,
+            head,
+            claimed,
+            due,
+            frozen: None,
+        }
+    }
+
     /// Puts a cinfo with this head that claims what is due. It takes memory for its bytes.
     pub fn put_info(&mut self, alloc: Global, head: &Head) -> Result<(), InfoPutRefusal>
         ensures exact { Puts I.faults self.old result self.new }

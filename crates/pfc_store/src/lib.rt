@@ -1,12 +1,19 @@
 //! What one file has on disk: its blocks and the cinfo that claims them, where every pair that a crash leaves is sound.
 #![tactic(auto)]
 
+mod bare;
 mod broken;
 mod data;
+mod found;
 mod info;
 mod store;
+mod volume;
 
-pub use broken::{Broken, InfoPutRefusal, Put, ReadRefusal, SyncRefusal, WriteRefusal};
+pub use bare::{Bare, Stripped, strip};
+pub use broken::{
+    Broken, InfoPutRefusal, Put, ReadRefusal, SurveyRefusal, SyncRefusal, WriteRefusal,
+};
 pub use data::DataHalf;
+pub use found::{Found, survey};
 pub use info::InfoHalf;
 pub use store::{FileStore, Unjoined, join};

@@ -11,9 +11,11 @@ ghost use Rattle.pfc_store.specs.Claims.{Says};
 ghost use Rattle.pfc_store.specs.Data.{Reads, Writes, Syncs};
 ghost use Rattle.pfc_store.specs.Info.{Puts};
 ghost use Rattle.pfc_store.specs.Moments.{StaysSound};
-ghost use Rattle.pfc_store.specs.Store.{data_side, info_side, with_data, with_info, store_of, FitTogether};
+ghost use Rattle.pfc_store.specs.Store.{data_side, info_side, with_data, with_info, store_of, FitTogether, IsStore};
 
-use crate::{Broken, DataHalf, InfoHalf, InfoPutRefusal, Put, ReadRefusal, SyncRefusal, WriteRefusal};
+use crate::{
+    Broken, DataHalf, InfoHalf, InfoPutRefusal, Put, ReadRefusal, SyncRefusal, WriteRefusal,
+};
 use pfc_base::{BlockSet, Part};
 use pfc_cinfo::Head;
 use pfc_world::{Block, DataDev, InfoDev, Known, World};
@@ -41,6 +43,14 @@ impl<W: World, D: DataDev<W>, I: InfoDev<W>> Model for FileStore<W, D, I> {
 }
 
 impl<W: World, D: DataDev<W>, I: InfoDev<W>> FileStore<W, D, I> {
+    /// Puts halves together that are known to fit.
+    pub(crate) fn new(data: DataHalf<W, D>, info: InfoHalf<W, I>) -> FileStore<W, D, I>
+        requires { IsStore data info }
+        ensures { result ≡ store_of data info }
+    {
+        FileStore { data, info }
+    }
+
     /// Reads a part of a block into a slice of the part's length, by one call on the data device. A failure of it
     /// freezes nothing.
     pub fn read_part(&mut self, part: Part, into: &mut [u8]) -> Result<(), ReadRefusal>

@@ -17,5 +17,5 @@ returns-clause-bytes g c =
     let block_size = sym (ap (λ v. v.block_size) c.self.view_is) in
     let within : part.from + part.len ≤ block_len_of s.known.size s.block_size part.block = subst (λ n. part.from + part.len ≤ block_len_of n s.block_size part.block) size (subst (λ n. part.from + part.len ≤ block_len_of c.args.self.now.size n part.block) block_size c.requires.part.within) in
     rw (← c.self.view_is) (λ tells. part_holds g.W.World.told g.D.DataDev.told g.W.World.files s.known.path s.known.size s.block_size part.block part.from s.durable s.written s.frozen (g.D.DataDev.seen s.device) (g.D.DataDev.seen c.read_at.new.self) c.read_at.new.into
-        s.known.right c.self.invariant.stored (sym c.test.ensures ∙ c.if-not-test.false) may (omega (arith, long, c.requires.part.some)) (subst (λ n. part.from + n ≤ block_len_of s.known.size s.block_size part.block) (sym long) within) tells
-        (subst (λ n. Read n c.read_at.new.into true (g.D.DataDev.seen s.device) (g.D.DataDev.seen c.read_at.new.self)) c.place_of-at.ensures (c.in_default-read_at.ensures.read tells)))
+    s.known.right c.self.invariant.stored (sym c.test.ensures ∙ c.if-not-test.false) may (omega (arith, long, c.requires.part.some)) (subst (λ n. part.from + n ≤ block_len_of s.known.size s.block_size part.block) (sym long) within) tells
+    (subst (λ n. Read n c.read_at.new.into true (g.D.DataDev.seen s.device) (g.D.DataDev.seen c.read_at.new.self)) c.place_of-at.ensures (c.in_default-read_at.ensures.read tells)))

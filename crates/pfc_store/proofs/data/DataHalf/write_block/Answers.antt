@@ -56,11 +56,11 @@ invariant_of-self-in-Err g c =
       bounds = c.self.invariant.bounds;
       nested = c.self.invariant.nested;
       stored = λ told file is tells.
-    let same : c.bytes.result.now ≡ block_of file s.block_size j = c.bytes.ensures.bytes ∙ block_bytes g.W.World.told g.W.World.files s.known.path b.known.path b.bytes.items file s.known.size b.known.size s.block_size b.block_size j s.known.right b.whole b.right path size block_size told is in
-    let place : c.place_of-at.result ≡ j * s.block_size = omega (arith, c.place_of-at.ensures, ap (λ n. n * s.block_size) c.number-number.ensures) in
-    let fresh : is_member s.written j ≡ false = ap (is_member s.written) (sym c.number-number.ensures) ∙ sym c.test.ensures ∙ c.if-test.false in
-    let keeps : HasStored file s.block_size s.durable s.written true (g.D.DataDev.seen s.device).now = subst (λ (f : Option Broken). HasStored file s.block_size s.durable s.written (is_none f) (g.D.DataDev.seen s.device).now) c.in-None.is (c.self.invariant.stored told file is tells) in
-    stored_broke file s.block_size j c.place_of-at.result c.bytes.result.now s.durable s.written (g.D.DataDev.seen s.device) (g.D.DataDev.seen c.write_at.new.self) c.self.invariant.nested place same fresh keeps (c.in-Err.ensures.write tells);
+          let same : c.bytes.result.now ≡ block_of file s.block_size j = c.bytes.ensures.bytes ∙ block_bytes g.W.World.told g.W.World.files s.known.path b.known.path b.bytes.items file s.known.size b.known.size s.block_size b.block_size j s.known.right b.whole b.right path size block_size told is in
+          let place : c.place_of-at.result ≡ j * s.block_size = omega (arith, c.place_of-at.ensures, ap (λ n. n * s.block_size) c.number-number.ensures) in
+          let fresh : is_member s.written j ≡ false = ap (is_member s.written) (sym c.number-number.ensures) ∙ sym c.test.ensures ∙ c.if-test.false in
+          let keeps : HasStored file s.block_size s.durable s.written true (g.D.DataDev.seen s.device).now = subst (λ (f : Option Broken). HasStored file s.block_size s.durable s.written (is_none f) (g.D.DataDev.seen s.device).now) c.in-None.is (c.self.invariant.stored told file is tells) in
+          stored_broke file s.block_size j c.place_of-at.result c.bytes.result.now s.durable s.written (g.D.DataDev.seen s.device) (g.D.DataDev.seen c.write_at.new.self) c.self.invariant.nested place same fresh keeps (c.in-Err.ensures.write tells);
     }
 
 pub invariant_of-self : goal.invariant_of-self
@@ -78,10 +78,10 @@ invariant_of-self g c =
       bounds = c.self.invariant.bounds ∙ sym (length-set s.written j true);
       nested = within_set s.durable s.written j below c.self.invariant.nested;
       stored = λ told file is tells.
-    let same : c.bytes.result.now ≡ block_of file s.block_size j = c.bytes.ensures.bytes ∙ block_bytes g.W.World.told g.W.World.files s.known.path b.known.path b.bytes.items file s.known.size b.known.size s.block_size b.block_size j s.known.right b.whole b.right path size block_size told is in
-    let place : c.place_of-at.result ≡ j * s.block_size = omega (arith, c.place_of-at.ensures, ap (λ n. n * s.block_size) c.number-number.ensures) in
-    let fresh : is_member s.written j ≡ false = ap (is_member s.written) (sym c.number-number.ensures) ∙ sym c.test.ensures ∙ c.if-test.false in
-    let keeps : HasStored file s.block_size s.durable s.written true (g.D.DataDev.seen s.device).now = subst (λ (f : Option Broken). HasStored file s.block_size s.durable s.written (is_none f) (g.D.DataDev.seen s.device).now) c.in-None.is (c.self.invariant.stored told file is tells) in
-    subst (λ (f : Option Broken). HasStored file s.block_size s.durable (slice_set s.written j true) (is_none f) (g.D.DataDev.seen c.write_at.new.self).now) (sym c.in-None.is) (stored_done file s.block_size j c.place_of-at.result c.bytes.result.now s.durable s.written (g.D.DataDev.seen s.device) (g.D.DataDev.seen c.write_at.new.self) c.self.invariant.nested place same fresh keeps (c.in-Ok.ensures.write tells));
+          let same : c.bytes.result.now ≡ block_of file s.block_size j = c.bytes.ensures.bytes ∙ block_bytes g.W.World.told g.W.World.files s.known.path b.known.path b.bytes.items file s.known.size b.known.size s.block_size b.block_size j s.known.right b.whole b.right path size block_size told is in
+          let place : c.place_of-at.result ≡ j * s.block_size = omega (arith, c.place_of-at.ensures, ap (λ n. n * s.block_size) c.number-number.ensures) in
+          let fresh : is_member s.written j ≡ false = ap (is_member s.written) (sym c.number-number.ensures) ∙ sym c.test.ensures ∙ c.if-test.false in
+          let keeps : HasStored file s.block_size s.durable s.written true (g.D.DataDev.seen s.device).now = subst (λ (f : Option Broken). HasStored file s.block_size s.durable s.written (is_none f) (g.D.DataDev.seen s.device).now) c.in-None.is (c.self.invariant.stored told file is tells) in
+          subst (λ (f : Option Broken). HasStored file s.block_size s.durable (slice_set s.written j true) (is_none f) (g.D.DataDev.seen c.write_at.new.self).now) (sym c.in-None.is) (stored_done file s.block_size j c.place_of-at.result c.bytes.result.now s.durable s.written (g.D.DataDev.seen s.device) (g.D.DataDev.seen c.write_at.new.self) c.self.invariant.nested place same fresh keeps (c.in-Ok.ensures.write tells));
     } in
     subst (λ (w : List Bool). IsDataHalf g.W.World.told g.W.World.files g.D.DataDev.told s.known.path s.known.size s.block_size s.durable w s.frozen (g.D.DataDev.seen c.write_at.new.self).now) (sym set) all

@@ -1,0 +1,11 @@
+use Rattle.std.proofs.Common.{Option, subst}
+use Rattle.std.specs.Prelude.{MatchOption}
+use Rattle.pfc_base.specs.Cinfo.{Cinfo}
+use Rattle.pfc_world.specs.Info.{bytes_of}
+use Rattle.pfc_store.specs.Claims.{Says}
+use Rattle.pfc_store.specs.Volume.{SaysNothing}
+use Rattle.pfc_store.proofs.Volumes.{says_whole}
+use Rattle.pfc_store.proofs.volume.read_cinfo.Goals as goal
+
+pub returns-in-Ok-read_bytes-clause-found : goal.returns-in-Ok-read_bytes-clause-found
+returns-in-Ok-read_bytes-clause-found g c tells = says_whole (g.I.InfoDev.seen c.args.second.now).now.shown (bytes_of c.in-Ok.main) c.in-Ok-read_bytes.found (c.in-Ok.ensures.shown tells) c.in-Ok-read_bytes.ensures
