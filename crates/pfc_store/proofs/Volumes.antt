@@ -102,3 +102,10 @@ judged old mid new found shown one same says = (
   (ap (λ (r : Run Info). r.now.shown) same ∙ shown),
   (subst (λ o. MatchOption found (SaysNothing o) (λ c. Says o c)) shown says),
 )
+
+pub mains_stay : (run : Run Info) → TakesMain run run
+mains_stay run = started (λ info. (main : Option (List ℕ)) → IsMain info main → IsMain run.now main ⊎ (main ≡ None)) run (λ main is. inl is)
+
+-- what was found says what is shown now
+pub judged_now : (shown : Option (List ℕ)) (info : Info) (found : Option Cinfo) → Judges shown info found → Judges info.shown info found
+judged_now shown info found judged = subst (λ s. Judges s info found) (sym judged.1) judged

@@ -3,6 +3,7 @@ pub mod Claims
 pub mod Data
 pub mod Info
 pub mod Moments
+pub mod Opens
 pub mod Store
 pub mod Volume
 pub mod Views

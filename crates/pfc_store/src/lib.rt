@@ -6,6 +6,7 @@ mod broken;
 mod data;
 mod found;
 mod info;
+mod open;
 mod store;
 mod volume;
 
@@ -16,4 +17,5 @@ pub use broken::{
 pub use data::DataHalf;
 pub use found::{Found, survey};
 pub use info::InfoHalf;
+pub use open::OpenRefusal;
 pub use store::{FileStore, Unjoined, join};

@@ -44,11 +44,14 @@ impl<W: World, D: DataDev<W>, I: InfoDev<W>> Model for FileStore<W, D, I> {
 
 impl<W: World, D: DataDev<W>, I: InfoDev<W>> FileStore<W, D, I> {
     /// Puts halves together that are known to fit.
-    pub(crate) fn new(data: DataHalf<W, D>, info: InfoHalf<W, I>) -> FileStore<W, D, I>
-        requires { IsStore data info }
-        ensures { result ≡ store_of data info }
+    pub(crate) fn new(first: DataHalf<W, D>, second: InfoHalf<W, I>) -> FileStore<W, D, I>
+        requires { IsStore first second }
+        ensures { result ≡ store_of first second }
     {
-        FileStore { data, info }
+        FileStore {
+            data: first,
+            info: second,
+        }
     }
 
     /// Reads a part of a block into a slice of the part's length, by one call on the data device. A failure of it
