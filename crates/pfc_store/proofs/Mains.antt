@@ -1,11 +1,11 @@
 -- What a crash leaves of a main file that is replaced.
-use Rattle.std.proofs.Common.{◌≡◌, ◌⊎◌, inl, inr, ⊎_elim, ℕ, Bool, true, false, List, Option, Some, None, IsTrue, refl, sym, ◌∙◌, ap, subst}
+use Rattle.std.proofs.Common.{◌≡◌, ◌⊎◌, inl, inr, ⊎_elim, ℕ, Bool, true, List, Option, Some, None, refl, sym, subst}
 use Rattle.pfc_base.specs.BlockSet.{is_member, IsWithin}
 use Rattle.pfc_base.specs.Cinfo.{Cinfo, IsCinfo}
-use Rattle.pfc_world.specs.Run.{Run, Goes, Throughout, moment}
-use Rattle.pfc_world.specs.Info.{Info, IsMain, whole, stable, WriteTemp, SyncTemp, Rename}
+use Rattle.pfc_world.specs.Run.{Run, Goes, moment}
+use Rattle.pfc_world.specs.Info.{Info, IsMain, stable, WriteTemp, SyncTemp, Rename}
 use Rattle.pfc_world.proofs.Moments.{started, goes_on, since, weaker}
-use Rattle.pfc_store.specs.Claims.{Says, ClaimsBetween, MainBetween, WithinNow, WithinSince, Replaces}
+use Rattle.pfc_store.specs.Claims.{ClaimsBetween, MainBetween, WithinNow, WithinSince, Replaces}
 
 module _ (bytes : List ℕ) (old : Run Info) where
   abbrev OldOrNew : Info → Type 0

@@ -1,14 +1,14 @@
 -- What a store starts with, on a volume whose pairs were sound.
-use Rattle.std.proofs.Common.{◌≡◌, ◌≢◌, ◌⊎◌, inl, inr, ⊎_elim, ◌<◌, ◌≤◌, ◌+◌, ◌*◌, min, ℕ, Bool, true, false, List, Option, Some, None, IsTrue, length, take, drop, slice_index, slice_set, replicate, refl, sym, ◌∙◌, ap, subst, arith, length-drop}
+use Rattle.std.proofs.Common.{◌≡◌, ⊎_elim, ◌<◌, ◌+◌, ◌*◌, ℕ, Bool, true, false, List, Option, Some, None, IsTrue, length, drop, slice_index, slice_set, replicate, refl, sym, ◌∙◌, ap, subst, arith, length-drop}
 use Rattle.std.specs.Prelude.{option_map}
 use Rattle.std.proofs.lemmas.Bool.{false_from_ne_true, cases_lt}
 use Rattle.std.proofs.lemmas.List.{length-take, length-set, length-replicate, get_or-take, get_or-drop, get_or-set_same, get_or-set_other, get_or-replicate, get_or_past}
 use Rattle.pfc_base.specs.Block.{slice_of, block_of, count_of}
 use Rattle.pfc_base.specs.BlockSet.{is_member}
-use Rattle.pfc_base.specs.Cinfo.{Cinfo, Head, IsCinfo, HoldsClaims, IsSound}
+use Rattle.pfc_base.specs.Cinfo.{Cinfo, Head, HoldsClaims, IsSound}
 use Rattle.pfc_base.proofs.CinfoReading.{cinfo_in-is}
 use Rattle.pfc_world.specs.Depot.{AllSound}
-use Rattle.pfc_world.specs.Files.{Files, file_at, HasSize}
+use Rattle.pfc_world.specs.Files.{Files, HasSize}
 use Rattle.pfc_world.specs.Run.{Run}
 use Rattle.pfc_world.specs.Disk.{Disk, IsImage, Firm, Loose, not_settled, is_left_over, StandsAt}
 use Rattle.pfc_world.specs.Info.{Info, IsMain}

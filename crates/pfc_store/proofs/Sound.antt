@@ -1,17 +1,17 @@
 -- What one device keeps and what the other claims make a sound pair.
-use Rattle.std.proofs.Common.{◌≡◌, ◌<◌, ◌≤◌, ◌+◌, ◌*◌, ◌∷◌, ℕ, Bool, true, List, [], Option, Some, None, IsTrue, length, take, drop, slice_index, refl, sym, ◌∙◌, ap, subst, arith, length-drop}
+use Rattle.std.proofs.Common.{◌≡◌, ◌<◌, ◌*◌, ◌∷◌, ℕ, Bool, true, List, [], Option, Some, None, IsTrue, length, take, drop, refl, sym, ◌∙◌, ap, subst, arith, length-drop}
 use Rattle.std.proofs.lemmas.List.{length-take, get_or-take, get_or-drop}
 use Rattle.std.proofs.lemmas.Grind.{same_number_lists}
 use Rattle.pfc_base.specs.Block.{slice_of, block_of}
 use Rattle.pfc_base.specs.BlockSet.{is_member, IsWithin}
 use Rattle.pfc_base.specs.Cinfo.{Cinfo, IsCinfo, IsSound}
 use Rattle.pfc_base.proofs.CinfoReading.{cinfo_in-is}
-use Rattle.pfc_world.specs.Files.{Files, file_at}
+use Rattle.pfc_world.specs.Files.{Files}
 use Rattle.pfc_world.specs.Run.{Run, moment}
 use Rattle.pfc_world.specs.Disk.{Disk, StandsAt}
 use Rattle.pfc_world.specs.Info.{Info}
 use Rattle.pfc_store.specs.Blocks.{OfFile, HasBlocks, SolidSince}
-use Rattle.pfc_store.specs.Claims.{MainBetween, ClaimsBetween, WithinSince}
+use Rattle.pfc_store.specs.Claims.{MainBetween, WithinSince}
 use Rattle.pfc_store.specs.Moments.{StaysSound}
 use Rattle.pfc_store.specs.Store.{FitTogether}
 use Rattle.pfc_store.specs.Views.{DataView, InfoView, StoreView}

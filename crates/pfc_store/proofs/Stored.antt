@@ -1,5 +1,5 @@
 -- What a disk keeps of a file's blocks when one more is written, and when it is synced.
-use Rattle.std.proofs.Common.{◌≡◌, ◌≢◌, ◌⊎◌, inl, inr, ⊎_elim, ◌<◌, ◌≤◌, ◌+◌, ◌*◌, ◌-◌, ◌∷◌, min, max, ℕ, Bool, true, false, List, [], Option, Some, None, IsTrue, length, take, drop, slice_index, slice_index_or, slice_set, refl, sym, ◌∙◌, ap, subst, arith, length-drop}
+use Rattle.std.proofs.Common.{◌≡◌, ◌≢◌, ◌⊎◌, inl, inr, ⊎_elim, ◌<◌, ◌≤◌, ◌+◌, ◌*◌, ℕ, Bool, true, false, List, Option, Some, None, IsTrue, length, take, drop, slice_index, slice_set, refl, sym, ◌∙◌, ap, subst, arith, length-drop}
 use Rattle.std.proofs.Math.Nat.{mul-le-mul_right}
 use Rattle.std.proofs.lemmas.Bool.{false_from_ne_true, cases_eq, cases_lt}
 use Rattle.std.proofs.lemmas.List.{length-take, get_or-set_same, get_or-set_other, get_or-take, get_or-drop}
@@ -9,8 +9,8 @@ use Rattle.pfc_base.specs.BlockSet.{is_member, IsWithin}
 use Rattle.pfc_base.proofs.Lists.{take-length_take}
 use Rattle.std.specs.Prelude.{IsSomeAnd, option_map, is_none}
 use Rattle.pfc_world.specs.Files.{Files, file_at, HasSize, IsBlockOf, Holds}
-use Rattle.pfc_world.specs.Run.{Run, Goes, Throughout, moment}
-use Rattle.pfc_world.specs.Disk.{Disk, IsImage, Firm, Loose, LeftOver, not_settled, is_left_over, StandsAt, LiesOutside, Read, Write, Sync}
+use Rattle.pfc_world.specs.Run.{Run, Goes, moment}
+use Rattle.pfc_world.specs.Disk.{Disk, IsImage, Firm, not_settled, is_left_over, StandsAt, LiesOutside, Read, Write, Sync}
 use Rattle.pfc_world.proofs.Moments.{started, goes_on, since}
 use Rattle.pfc_store.specs.declared.broken.Broken.{Broken}
 use Rattle.pfc_store.specs.Blocks.{OfFile, HasBlocks, OnPlaces, SolidSince, HasStored}

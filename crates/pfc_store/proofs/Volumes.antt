@@ -1,13 +1,12 @@
 -- What a crash leaves of a volume that is settled, read and emptied.
-use Rattle.std.proofs.Common.{◌≡◌, ◌⊎◌, inl, inr, ⊎_elim, ◌<◌, ◌≤◌, ◌+◌, min, ℕ, Bool, true, false, List, Option, Some, None, IsTrue, length, take, refl, sym, ◌∙◌, ap, subst, arith}
-use Rattle.std.specs.Prelude.{MatchOption, IsSomeAnd}
-use Rattle.std.proofs.lemmas.Bool.{false_from_ne_true}
+use Rattle.std.proofs.Common.{◌≡◌, ◌⊎◌, inl, inr, ⊎_elim, ◌<◌, ℕ, Bool, true, false, List, Option, Some, None, length, sym, ◌∙◌, ap, subst, arith}
+use Rattle.std.specs.Prelude.{MatchOption}
 use Rattle.std.proofs.lemmas.List.{take_all}
 use Rattle.pfc_base.specs.Cinfo.{Cinfo, IsCinfo, IsSound}
 use Rattle.pfc_cinfo.proofs.Spelled.{cinfo-length}
 use Rattle.pfc_world.specs.Depot.{AllSound}
 use Rattle.pfc_world.specs.Files.{Files}
-use Rattle.pfc_world.specs.Run.{Run, Goes, Throughout, moment}
+use Rattle.pfc_world.specs.Run.{Run, Goes, moment}
 use Rattle.pfc_world.specs.Disk.{Disk, IsImage, ImageSince}
 use Rattle.pfc_world.specs.Info.{Info, IsMain, MainSince, IsCut, IsCutOf, FewerMains, Settle, Remove}
 use Rattle.pfc_world.proofs.Moments.{started, goes_on, follows_on, since, weaker}

@@ -1,7 +1,6 @@
 -- What each call does to the half with the data. The cases of an answer exclude each other.
-use Rattle.std.specs.Prelude.{◌≡◌, ◌⊎◌, ℕ, true, false, Option, Some, None, Result, Ok, Err, slice_set}
+use Rattle.std.specs.Prelude.{◌≡◌, ◌⊎◌, ℕ, true, false, Some, None, Result, Ok, Err, slice_set}
 use Rattle.pfc_base.specs.BlockSet.{is_member}
-use Rattle.pfc_base.specs.declared.block.Part.{Part}
 use Rattle.pfc_world.specs.Counts.{Rose}
 use Rattle.pfc_store.specs.declared.broken.Broken.{Broken}
 use Rattle.pfc_store.specs.declared.broken.Put.{Put}

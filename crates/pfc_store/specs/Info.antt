@@ -1,5 +1,5 @@
 -- What each call does to the half with the cinfo. The cases of an answer exclude each other.
-use Rattle.std.specs.Prelude.{◌≡◌, ℕ, Option, Some, None, Result, Ok, Err}
+use Rattle.std.specs.Prelude.{◌≡◌, ℕ, Some, None, Result, Ok, Err}
 use Rattle.pfc_store.specs.declared.broken.InfoPutRefusal.{InfoPutRefusal}
 use Rattle.pfc_store.specs.declared.broken.InfoPutRefusal.TheVariants.{Memory, Frozen, Device}
 use Rattle.pfc_store.specs.Data.{Breaks}

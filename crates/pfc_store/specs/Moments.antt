@@ -1,5 +1,5 @@
 -- What holds at every moment of a call on a store, whatever a crash in it leaves.
-use Rattle.std.specs.Prelude.{Bool, List, ℕ, Option, IsTrue}
+use Rattle.std.specs.Prelude.{Bool, List, ℕ, IsTrue}
 use Rattle.pfc_world.specs.Files.{Files}
 use Rattle.pfc_world.specs.Run.{Run, moment}
 use Rattle.pfc_world.specs.Disk.{Disk, ImageSince}

@@ -1,5 +1,5 @@
 -- The store as a pair of halves.
-use Rattle.std.specs.Prelude.{◌≡◌, Bool, List, Option, Result, Ok, Err, length}
+use Rattle.std.specs.Prelude.{◌≡◌, length}
 use Rattle.std.specs.Option.{option_or}
 use Rattle.pfc_base.specs.BlockSet.{IsWithin}
 use Rattle.pfc_store.specs.Views.{DataView, InfoView, StoreView}

@@ -18,4 +18,4 @@ pub use data::DataHalf;
 pub use found::{Found, survey};
 pub use info::InfoHalf;
 pub use open::OpenRefusal;
-pub use store::{FileStore, Unjoined, join};
+pub use store::{FileStore, Unjoined, halves_stay_sound, join};

@@ -1,13 +1,16 @@
 // The store: both halves of one file.
-ghost use Rattle.std.specs.Prelude.{◌≡◌, ◌+◌, ◌*◌, ◌≤◌, ℕ, List, Option, length, IsTrue, IfOk, IfErr, OnOk, ◌↔◌};
+ghost use Rattle.std.specs.Prelude.{Bool, ◌≡◌, ◌+◌, ◌*◌, ◌≤◌, ℕ, List, Option, length, IsTrue, IfOk, IfErr, OnOk, ◌↔◌};
 ghost use Rattle.std.specs.Option.{option_or};
 ghost use Rattle.pfc_base.specs.Block.{IsPartOf, count_of};
 ghost use Rattle.pfc_base.specs.BlockSet.{IsWithin};
+ghost use Rattle.pfc_base.specs.Cinfo.{IsSound};
 ghost use Rattle.pfc_world.specs.Files.{Holds};
 ghost use Rattle.pfc_world.specs.Depot.{AllSound};
-ghost use Rattle.pfc_world.specs.Disk.{IsImage};
-ghost use Rattle.pfc_world.specs.Info.{IsMain};
-ghost use Rattle.pfc_store.specs.Claims.{Says};
+ghost use Rattle.pfc_world.specs.Disk.{Disk, IsImage, ImageSince};
+ghost use Rattle.pfc_world.specs.Info.{Info, IsMain, MainSince};
+ghost use Rattle.pfc_world.specs.Run.{Run};
+ghost use Rattle.pfc_store.specs.Blocks.{SolidSince};
+ghost use Rattle.pfc_store.specs.Claims.{Says, WithinSince};
 ghost use Rattle.pfc_store.specs.Data.{Reads, Writes, Syncs};
 ghost use Rattle.pfc_store.specs.Info.{Puts};
 ghost use Rattle.pfc_store.specs.Moments.{StaysSound};
@@ -255,3 +258,9 @@ pub fn join<W: World, D: DataDev<W>, I: InfoDev<W>>(
     info.freeze(frozen);
     Ok(FileStore { data, info })
 }
+
+/// While the halves are apart, whatever each of them does: what one keeps and what the other may claim make sound pairs,
+/// as long as all that is due in the one was durable in the other. This does nothing: its contract is that law.
+pub fn halves_stay_sound()
+    ensures { (file : List ℕ) (size k : ℕ) (durable claimed due : List Bool) (disk : Run Disk) (info : Run Info) (s t : ℕ) → IsWithin due durable → SolidSince file k durable disk s → WithinSince size k claimed due info t → (image : List ℕ) (main : Option (List ℕ)) → ImageSince disk s image → MainSince info t main → IsSound image main file }
+{}

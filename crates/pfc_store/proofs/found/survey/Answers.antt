@@ -1,4 +1,4 @@
-use Rattle.std.proofs.Common.{◌≡◌, Option, inl, refl, subst}
+use Rattle.std.proofs.Common.{Option, inl, refl, subst}
 use Rattle.std.specs.Prelude.{MatchOption}
 use Rattle.pfc_base.specs.Cinfo.{Cinfo}
 use Rattle.pfc_world.specs.Disk.{IsImage}

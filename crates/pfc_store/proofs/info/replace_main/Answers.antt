@@ -1,4 +1,4 @@
-use Rattle.std.proofs.Common.{true, false}
+use Rattle.std.proofs.Common.{false}
 use Rattle.std.specs.Prelude.{is_ok}
 use Rattle.pfc_store.proofs.Mains.{after_write, after_sync, after_rename, renamed_only}
 use Rattle.pfc_store.proofs.info.replace_main.Goals as goal

@@ -1,5 +1,4 @@
-use Rattle.std.proofs.Common.{◌≡◌, inr, ℕ, Option, false, replicate, refl, ◌∙◌, ap}
-use Rattle.pfc_store.specs.Opens.{IsOurs}
+use Rattle.std.proofs.Common.{inr, false, replicate, refl, ◌∙◌, ap}
 use Rattle.pfc_store.proofs.Opened.{not_ours}
 use Rattle.pfc_store.proofs.Volumes.{mains_stay}
 use Rattle.pfc_store.proofs.open.choose_start.Goals as goal

@@ -1,9 +1,4 @@
-use Rattle.std.proofs.Common.{Option, subst}
-use Rattle.std.specs.Prelude.{MatchOption}
-use Rattle.pfc_base.specs.Cinfo.{Cinfo}
 use Rattle.pfc_world.specs.Info.{bytes_of}
-use Rattle.pfc_store.specs.Claims.{Says}
-use Rattle.pfc_store.specs.Volume.{SaysNothing}
 use Rattle.pfc_store.proofs.Volumes.{says_whole}
 use Rattle.pfc_store.proofs.volume.read_cinfo.Goals as goal
 

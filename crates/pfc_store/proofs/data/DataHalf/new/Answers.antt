@@ -1,4 +1,4 @@
-use Rattle.std.proofs.Common.{◌≡◌, List, Bool, length, true, refl, sym, ap, subst}
+use Rattle.std.proofs.Common.{◌≡◌, List, Bool, length, true, sym, ap, subst}
 use Rattle.pfc_base.specs.BlockSet.{is_member}
 use Rattle.pfc_cinfo.specs.Cinfo.{IsTiled}
 use Rattle.pfc_store.proofs.Opened.{opened}

@@ -1,5 +1,4 @@
-use Rattle.std.proofs.Common.{◌≡◌, ◌⊎◌, inl, inr, ◌<◌, ◌≤◌, ◌+◌, ◌*◌, Option, None, Ok, true, length, sym, ◌∙◌, ap, subst, arith}
-use Rattle.std.specs.Prelude.{is_ok}
+use Rattle.std.proofs.Common.{◌≡◌, ◌⊎◌, inl, inr, ◌≤◌, ◌+◌, None, true, length, sym, ◌∙◌, ap, subst, arith}
 use Rattle.pfc_base.specs.BlockSet.{is_member}
 use Rattle.pfc_base.specs.Block.{block_len_of}
 use Rattle.pfc_world.specs.Disk.{Read}

@@ -1,5 +1,4 @@
-use Rattle.std.proofs.Common.{Option, true, false, subst, sym, is_none}
-use Rattle.pfc_store.specs.Blocks.{HasStored}
+use Rattle.std.proofs.Common.{true, false}
 use Rattle.pfc_store.proofs.Stored.{solid_now, solid_synced}
 use Rattle.pfc_store.proofs.data.DataHalf.sync_data.Goals as goal
 

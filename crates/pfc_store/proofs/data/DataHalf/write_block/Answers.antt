@@ -1,7 +1,7 @@
-use Rattle.std.proofs.Common.{◌≡◌, ◌<◌, ◌*◌, ℕ, Bool, List, Option, true, false, length, refl, sym, ◌∙◌, ap, subst, slice_set, is_none, arith}
+use Rattle.std.proofs.Common.{◌≡◌, ◌<◌, ◌*◌, Bool, List, Option, true, false, length, sym, ◌∙◌, ap, subst, slice_set, is_none, arith}
 use Rattle.std.proofs.lemmas.List.{length-set}
 use Rattle.pfc_base.specs.Block.{block_of, count_of}
-use Rattle.pfc_base.specs.BlockSet.{is_member, IsWithin}
+use Rattle.pfc_base.specs.BlockSet.{is_member}
 use Rattle.pfc_store.specs.Blocks.{HasStored, IsDataHalf}
 use Rattle.pfc_store.specs.declared.broken.Broken.{Broken}
 use Rattle.pfc_store.proofs.Stored.{solid_now, solid_done, solid_broke, stored_done, stored_broke, within_set, block_bytes}

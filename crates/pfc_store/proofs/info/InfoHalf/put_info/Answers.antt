@@ -1,8 +1,6 @@
-use Rattle.std.proofs.Common.{◌≡◌, ℕ, List, Option, Bool, Some, None, length, refl, sym, ◌∙◌, ap, subst}
-use Rattle.pfc_base.specs.BlockSet.{IsWithin}
+use Rattle.std.proofs.Common.{◌≡◌, ℕ, List, Option, Some, None, refl, sym, subst}
 use Rattle.pfc_base.specs.Cinfo.{Cinfo, IsCinfo}
-use Rattle.pfc_store.specs.Claims.{Says, ClaimsBetween, IsInfoHalf}
-use Rattle.pfc_store.specs.declared.broken.Broken.{Broken}
+use Rattle.pfc_store.specs.Claims.{Says, ClaimsBetween}
 use Rattle.pfc_store.proofs.Mains.{due_between, put_since, put_now, put_done, within_now}
 use Rattle.pfc_store.proofs.info.InfoHalf.put_info.Goals as goal
 

@@ -1,7 +1,6 @@
-use Rattle.std.proofs.Common.{◌≡◌, List, Bool, true, length, sym, ◌∙◌, ap, subst}
+use Rattle.std.proofs.Common.{◌≡◌, List, Bool, true, length, ◌∙◌, ap, subst}
 use Rattle.pfc_base.specs.BlockSet.{is_member, IsWithin}
 use Rattle.pfc_cinfo.specs.Cinfo.{IsTiled}
-use Rattle.pfc_store.specs.Claims.{IsInfoHalf}
 use Rattle.pfc_store.proofs.Mains.{may_claim_more}
 use Rattle.pfc_store.proofs.info.InfoHalf.raise.Goals as goal
 

@@ -1,8 +1,4 @@
-use Rattle.std.proofs.Common.{◌≡◌, ap, subst}
-use Rattle.pfc_world.specs.Disk.{Disk}
-use Rattle.pfc_world.specs.Info.{Info}
-use Rattle.pfc_world.specs.Run.{Run}
-use Rattle.pfc_store.specs.Moments.{SoundSince}
+use Rattle.std.proofs.Common.{subst}
 use Rattle.pfc_store.specs.Opens.{Restarts}
 use Rattle.pfc_store.proofs.Opened.{restart_stands, restart_within}
 use Rattle.pfc_store.proofs.Volumes.{sound_pairs}

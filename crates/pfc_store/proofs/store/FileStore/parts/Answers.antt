@@ -1,4 +1,4 @@
-use Rattle.std.proofs.Common.{inl, sym, ◌∙◌, ap, subst}
+use Rattle.std.proofs.Common.{inl, ◌∙◌, ap, subst}
 use Rattle.pfc_world.specs.Disk.{IsImage}
 use Rattle.pfc_world.specs.Info.{IsMain}
 use Rattle.pfc_store.proofs.store.FileStore.parts.Goals as goal

@@ -1,9 +1,7 @@
-use Rattle.std.proofs.Common.{◌≡◌, ap, sym, subst}
+use Rattle.std.proofs.Common.{sym, subst}
 use Rattle.pfc_world.specs.Run.{Run, moment}
 use Rattle.pfc_world.specs.Disk.{Disk}
 use Rattle.pfc_store.specs.Blocks.{SolidSince}
-use Rattle.pfc_store.specs.Claims.{WithinSince}
-use Rattle.pfc_store.specs.Views.{DataView, InfoView}
 use Rattle.pfc_store.proofs.Sound.{stays_sound, in_store}
 use Rattle.pfc_store.proofs.store.FileStore.read_part.Goals as goal
 
