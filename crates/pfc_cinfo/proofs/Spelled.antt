@@ -113,3 +113,12 @@ passes bytes bitmap c small fits is spelled said =
 
 pub passes-from_cinfo : (bytes : List ℕ) (c : Cinfo) → IsBytes bytes → IsCinfo bytes c → Passes bytes
 passes-from_cinfo bytes c small is = passes bytes (bitmap_in bytes c) c small is.fits is.bitmap is.spelled (cinfo_in-is bytes c is)
+
+-- a cinfo is shorter than what is read of a main file at most
+pub cinfo-length : (bytes : List ℕ) (c : Cinfo) → IsCinfo bytes c → length bytes < 4194305
+cinfo-length bytes c is =
+    let front = length-append (header_of c) (four (crc_of (header_of c))) in
+    let part = length-append (bitmap_in bytes c) (records_of c) in
+    let body = length-append (bitmap_in bytes c ++ records_of c) (four (crc_of (bitmap_in bytes c ++ records_of c))) in
+    let whole = length-append (summed (header_of c)) (summed (bitmap_in bytes c ++ records_of c)) in
+    omega (arith, ap length is.spelled, whole, front, part, body, length-header c, length-records c.head.records, is.bitmap.size, is.fits.count, is.fits.head.count)

@@ -12,7 +12,7 @@ mod head;
 pub use cinfo::Cinfo;
 pub use damage::{Damage, DecodeRefusal};
 pub use decoding::decode;
-pub use encoding::encode;
+pub use encoding::{encode, encode_parts};
 pub use head::{Head, MOST_RECORDS, Record, Records};
 
 #[cfg(test)]

@@ -20,18 +20,18 @@ fn push_numbers(
     push_word(out, b"\n")
 }
 
-fn push_record(alloc: Global, out: &mut Vec<u8>, record: &Record) -> Result<(), Memory>
-    ensures { OnOk result (out.new.items ≡ out.old.items ++ record_text record.now) }
+fn push_record(alloc: Global, out: &mut Vec<u8>, row: &Record) -> Result<(), Memory>
+    ensures { OnOk result (out.new.items ≡ out.old.items ++ record_text row.now) }
 {
     let numbers = [
-        record.attach,
-        record.detach,
-        u64::from(record.ios),
-        u64::from(record.duration),
-        u64::from(record.merged),
-        record.hit,
-        record.missed,
-        record.bypassed,
+        row.attach,
+        row.detach,
+        u64::from(row.ios),
+        u64::from(row.duration),
+        u64::from(row.merged),
+        row.hit,
+        row.missed,
+        row.bypassed,
     ];
     push_numbers(alloc, out, b"record", &numbers)
 }

@@ -6,7 +6,7 @@ use Rattle.pfc_cinfo.proofs.encoding.put_record.Goals as goal
 
 pub returns-clause-written : goal.returns-clause-written
 returns-clause-written c =
-    let r = c.record.inside in
+    let r = c.row.inside in
     on_ok_weaker c.put_eight-6.result
     (λ last. last
     ∙ behind (eight 0) (c.in_ok-put_eight-5.ensures.ok
@@ -19,5 +19,5 @@ returns-clause-written c =
     ∙ behind (four r.ios) (c.in_ok-put_eight-2.ensures.ok
     ∙ behind (eight r.detach) c.in_ok-put_eight.ensures.ok))))))))
     ∙ gather_record c.args.out.now.items (record { attach = r.attach; detach = r.detach; ios = r.ios; duration = r.duration; merged = r.merged; hit = r.hit; missed = r.missed; bypassed = r.bypassed })
-    ∙ ap (λ s. c.args.out.now.items ++ record_of s) c.record.view_is)
+    ∙ ap (λ s. c.args.out.now.items ++ record_of s) c.row.view_is)
     c.put_eight-6.ensures.ok

@@ -1,4 +1,4 @@
-use Rattle.std.proofs.Common.{◌≡◌, ◌<◌, ◌*◌, ◌-◌, length, get_or, false, sym, ap, ◌∙◌, inl, inr, arith}
+use Rattle.std.proofs.Common.{◌<◌, ◌*◌, ◌-◌, length, get_or, false, sym, ap, ◌∙◌, inl, inr, arith}
 use Rattle.pfc_cinfo.specs.Cinfo.{claimed_bytes}
 use Rattle.pfc_cinfo.proofs.Claimed.{all-whole, last-shorter}
 use Rattle.pfc_cinfo.proofs.cinfo.Cinfo.claimed_bytes.Goals as goal

@@ -1,0 +1,5 @@
+pub mod Mains
+pub mod Opened
+pub mod Sound
+pub mod Stored
+pub mod Volumes

@@ -1,0 +1,9 @@
+pub mod Blocks
+pub mod Claims
+pub mod Data
+pub mod Info
+pub mod Moments
+pub mod Opens
+pub mod Store
+pub mod Volume
+pub mod Views
