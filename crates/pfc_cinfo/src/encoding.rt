@@ -7,8 +7,8 @@ ghost use Rattle.pfc_cinfo.specs.Cinfo.{IsTiled};
 
 use crate::fields::{put_eight, put_four};
 use crate::{Cinfo, Head, Record};
-use pfc_base::{BlockSet, Memory};
 use pfc_base::crc::crc32c;
+use pfc_base::{BlockSet, Memory};
 use std::alloc::Global;
 
 fn put_header(out: &mut Vec<u8>, block: u64, size: u64, head: &Head) -> Result<(), Memory>
