@@ -402,12 +402,39 @@ fn stray_flight(core: &mut Core, other: &mut Core) -> Result<(Stranger, &'static
     }
 }
 
-#[test]
-fn strays_come_back(rt: HostRuntime) -> Result<(), Fail> {
-    let alloc = rt.alloc();
+/// What came back from another core, and whether each core is quiet then.
+#[derive(Drop)]
+struct Strays {
+    stay: Stranger,
+    ticket: Stranger,
+    answer: &'static str,
+    home_is_quiet: bool,
+    other_is_quiet: bool,
+}
+
+/// Hands the tokens of one core to another one.
+fn stray(core: &mut Core, other: &mut Core) -> Result<Strays, Fail> {
+    let stay = stray_stay(core, other)?;
+    let (ticket, answer) = stray_flight(core, other)?;
+    Ok(Strays {
+        stay,
+        ticket,
+        answer,
+        home_is_quiet: core.quiet(),
+        other_is_quiet: other.quiet(),
+    })
+}
+
+fn stray_at_home(alloc: Global) -> Result<Strays, Fail> {
     let mut line = line_of(alloc, 1, &[])?;
     let mut core = core_of(alloc, 5, &mut line)?;
     let mut other = core_of(alloc, 6, &mut line)?;
+    stray(&mut core, &mut other)
+}
+
+#[test]
+fn strays_come_back(rt: HostRuntime) -> Result<(), Fail> {
+    let strays = stray_at_home(rt.alloc())?;
     let strayed = Stranger {
         token: Mark {
             instance: 5,
@@ -415,11 +442,10 @@ fn strays_come_back(rt: HostRuntime) -> Result<(), Fail> {
         },
         instance: 6,
     };
-    assert_eq!(rt; stray_stay(&mut core, &mut other)?, strayed);
-    let (why, answer) = stray_flight(&mut core, &mut other)?;
-    assert_eq!(rt; why, strayed);
-    assert_eq!(rt; answer, "stray");
-    assert!(rt; other.quiet());
-    assert!(rt; !core.quiet());
+    assert_eq!(rt; strays.stay, strayed);
+    assert_eq!(rt; strays.ticket, strayed);
+    assert_eq!(rt; strays.answer, "stray");
+    assert!(rt; !strays.home_is_quiet);
+    assert!(rt; strays.other_is_quiet);
     Ok(())
 }
