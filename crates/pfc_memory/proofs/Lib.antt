@@ -1,1 +1,12 @@
+pub mod Crashes
+pub mod Disks
+pub mod Images
+pub mod Laying
+pub mod Lending
+pub mod Listings
+pub mod Mains
+pub mod Places
 pub mod RowFiles
+pub mod Searches
+pub mod Steps
+pub mod Volumes

@@ -1,3 +1,9 @@
 pub mod Calls
+pub mod Data
+pub mod Depot
+pub mod History
+pub mod Mains
+pub mod Numbers
+pub mod Places
 pub mod Rows
 pub mod Texts
