@@ -36,12 +36,12 @@ pub(crate) struct Folder {
 }
 
 /// There is no such file: neither the name nor, where it lies below a file, a folder that it names.
-fn is_absent(error: &io::Error) -> bool {
+pub(crate) fn is_absent(error: &io::Error) -> bool {
     error.kind() == ErrorKind::NotFound || error.kind() == ErrorKind::NotADirectory
 }
 
 /// Reads from a place until `into` is full; where the file ends before that, it is an error.
-fn read_whole(file: &File, at: u64, into: &mut [u8]) -> io::Result<()> {
+pub(crate) fn read_whole(file: &File, at: u64, into: &mut [u8]) -> io::Result<()> {
     if into.is_empty() && file.metadata()?.len() < at {
         return Err(io::Error::from(ErrorKind::UnexpectedEof));
     }

@@ -1,3 +1,6 @@
+mod cache;
+mod files;
+
 use super::*;
 use pfc_base::Path;
 use pfc_world::{Fault, Host, Origin, Refusal, Sink, Source, Sources};
