@@ -19,3 +19,6 @@ pub use found::{Found, survey};
 pub use info::InfoHalf;
 pub use open::OpenRefusal;
 pub use store::{FileStore, Unjoined, halves_stay_sound, join};
+
+#[cfg(test)]
+mod tests;
