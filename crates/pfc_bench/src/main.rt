@@ -7,6 +7,8 @@ mod checksum;
 mod queue;
 mod sample;
 mod sets;
+mod store;
+mod stored;
 
 use crate::sample::{Plan, show};
 use anyhow::{Result, bail};
@@ -40,9 +42,20 @@ fn show_kernels(rt: &HostRuntime, plan: Plan) -> Result<()> {
     Ok(())
 }
 
+// The lines that compare with the system's calls on the same files.
+fn show_store(rt: &HostRuntime, plan: Plan) -> Result<()> {
+    let samples = store::all(rt, plan)?;
+    show(rt, plan, "read 4 KiB of a block", &samples.small)?;
+    show(rt, plan, "read 128 KiB of a block", &samples.large)?;
+    show(rt, plan, "write a block", &samples.write)?;
+    show(rt, plan, "sync a block, put its cinfo", &samples.turn)?;
+    Ok(())
+}
+
 fn main(rt: HostRuntime) -> Result<()> {
     let plan = plan(&rt)?;
     show_kernels(&rt, plan)?;
+    show_store(&rt, plan)?;
     show(
         &rt,
         plan,

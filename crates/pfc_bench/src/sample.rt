@@ -35,12 +35,22 @@ pub struct Sample {
 impl Sample {
     /// A sample of so many rounds of each thread, begun at `start` and over now.
     pub fn until_now(rt: &impl Clock, start: Instant, rounds: u64, sum: u64) -> io::Result<Self> {
-        let each = start.elapsed(rt)?.as_nanos() / u128::from(rounds.max(1));
-        Ok(Sample {
-            nanoseconds: u64::try_from(each).unwrap_or(u64::MAX),
-            sum,
-        })
+        Ok(Sample::of_total(nanoseconds_since(rt, start)?, rounds, sum))
     }
+
+    /// A sample of so many rounds that took so many nanoseconds in all.
+    pub fn of_total(nanoseconds: u64, rounds: u64, sum: u64) -> Self {
+        Sample {
+            nanoseconds: nanoseconds / rounds.max(1),
+            sum,
+        }
+    }
+}
+
+/// The time since `start`.
+pub fn nanoseconds_since(rt: &impl Clock, start: Instant) -> io::Result<u64> {
+    let nanoseconds = start.elapsed(rt)?.as_nanos();
+    Ok(u64::try_from(nanoseconds).unwrap_or(u64::MAX))
 }
 
 /// Prints the line of a sample.
