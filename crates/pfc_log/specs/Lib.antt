@@ -8,3 +8,4 @@ pub mod Runs
 pub mod Text
 pub mod Positions
 pub mod Tallies
+pub mod Uncaching

@@ -10,6 +10,7 @@ mod start;
 #[cfg(test)]
 mod tests;
 mod text;
+mod uncaching;
 
 pub use counts::Counts;
 pub use entry::{DropCause, Entry, Fell, Mark, Served, Spot, Stranger, Uncached, Way};
@@ -21,3 +22,4 @@ pub use log::FileLog;
 pub use runs::{push_runs, push_set};
 pub use start::Start;
 pub use text::{push_entry, push_line, push_log};
+pub use uncaching::{MOST_BLOCKS, uncached_cause};

@@ -1,6 +1,6 @@
 use crate::{
     Counts, DropCause, Entry, Fell, FileLog, Mark, Served, Spot, Start, Stranger, Uncached, Way,
-    push_entry, push_log,
+    push_entry, push_log, uncached_cause,
 };
 use pfc_base::{BlockSet, Memory, Path};
 use std::alloc::Global;
@@ -279,5 +279,22 @@ fn each_entry_has_its_text(rt: HostRuntime) -> Result<(), Fail> {
     );
     assert!(rt; reads_as(alloc, Entry::Frozen, b"frozen")?);
     assert!(rt; reads_as(alloc, Entry::WrittenOff, b"written_off")?);
+    Ok(())
+}
+
+#[test]
+fn companions_and_files_of_too_many_blocks_are_not_cached(rt: HostRuntime) -> Result<(), Fail> {
+    let a = Path::read(b"/a")?;
+    let cinfo = Path::read(b"/d/a.cinfo")?;
+    let temporary = Path::read(b"/a.cinfo.tmp")?;
+    let neither = Path::read(b"/a.cinfo.tmp2")?;
+    assert_eq!(rt; uncached_cause(&a, 16777216), None);
+    assert_eq!(rt; uncached_cause(&a, 16777217), Some(Uncached::Blocks));
+    assert_eq!(rt; uncached_cause(&cinfo, 1), Some(Uncached::Suffix));
+    assert_eq!(rt;
+        uncached_cause(&temporary, 16777217),
+        Some(Uncached::Suffix)
+    );
+    assert_eq!(rt; uncached_cause(&neither, 0), None);
     Ok(())
 }
