@@ -63,6 +63,7 @@ work_longer b line (st.Full op job) going work = (goes_longer b line op _ work.0
 work_longer b line (st.Running op ticket) going work = (goes_longer b line op _ work.0, work.1)
 work_longer b line (st.Directing op leave) going work = (goes_longer b line op _ work.0, work.1)
 work_longer b line (st.Looking op pin part) going work = (goes_longer b line op _ work.0, work.1)
+work_longer b line (st.Loading op disk part) going work = (goes_longer b line op _ work.0, work.1)
 work_longer b line (st.Ending op) going work = (goes_longer b line op _ work.0, work.1)
 
 pub client_longer : (b b2 : BookView) (l : LineView) (line : List ℕ) (stage : StageView) → b.shut ≡ false → b2 ≡ longer b line → IsClient b l stage → IsClient b2 l stage

@@ -24,15 +24,16 @@ use Rattle.pfc_core.specs.Leaves.{pins_on}
 use Rattle.pfc_core.specs.Line.{Brings, Wants}
 use Rattle.pfc_core.specs.Line as line
 use Rattle.pfc_core.specs.LineView.{LineView}
+use Rattle.pfc_core.specs.Disks.{GoesBroken}
 use Rattle.pfc_core.specs.Looks.{LeavesFor}
 use Rattle.pfc_core.specs.Marks.{Mark, sees}
 use Rattle.pfc_core.specs.View.{CoreView}
 use Rattle.pfc_read.specs.Fills.{Owes}
 use Rattle.pfc_read.specs.OpView.{OpView, held, first_met, Nothing}
 use Rattle.pfc_read.specs.Plans.{Plans, with_asked}
-use Rattle.pfc_read.specs.Steps.{GivesTicket, GivesLeave, GivesPin, GivesEnd}
+use Rattle.pfc_read.specs.Steps.{GivesTicket, GivesLeave, GivesPin, GivesDisk, GivesEnd}
 use Rattle.pfc_actor.specs.Books.{BookView, IsNext, open_weight}
-use Rattle.pfc_actor.specs.StageView.{StageView, Rest, Planning, Reading, Landed, Full, Running, Directing, Looking, Ending}
+use Rattle.pfc_actor.specs.StageView.{StageView, Rest, Planning, Reading, Landed, Full, Running, Directing, Looking, Loading, Ending}
 use Rattle.pfc_actor.specs.Stages.{Shares, shares, no_shares, op_shares, weight, stage_weight, owed, asking, failing}
 use Rattle.pfc_actor.specs.Steps.{Shrinks, Own, Step, Knows}
 use Rattle.pfc_actor.proofs.Tallied.{GoesOn, Answers, counted, made, quiet, told}
@@ -224,6 +225,21 @@ lost_step b l op op2 pin part c c2 leaves owes here mine =
     (gained_one b.number c.entries c2.entries x (ap (λ (v : CoreView). v.entries) leaves.enters) (ap Some mine))
     (λ t. made l l (Looking op pin part) (Reading op2) t (together t g) 0 0 (omega arith) (omega (arith, one, more)) (omega arith)) (omega arith) (inl (omega arith))
 
+-- the block couldn't be read from disk, and a leave is entered in the place of the token
+pub broken_step : (b : BookView) (l : LineView) (op op2 : OpView) (disk : Mark) (part : Part) (c c2 : CoreView) → GoesBroken c disk c2 → Owes op op2 →
+    op.reading.instance ≡ c.instance → disk.client ≡ b.number → Step b l (Loading op disk part) c b l (Reading op2) c2
+broken_step b l op op2 disk part c c2 leaves owes here mine =
+    let x : Entry = e.Direct disk.block disk.client way.Device in
+    let g : Tally = gain b.number (owners c.entries) x in
+    let one : g.directs ≡ 1 = ap {B = ℕ} (λ (n : ℕ). if n == b.number then 1 else 0) mine ∙ ap (λ (q : Bool). if q then 1 else 0) (eq_self b.number) in
+    let more = ap (λ (v : OpView). v.leaves) owes.rest in
+    read_step b l l (Loading op disk part) (Reading op2) op op2 c c2 g (record { asks = refl; fails = refl; shares_are = λ i. refl }) (record { asks = refl; fails = refl; shares_are = λ i. refl })
+    (record { reading = ap (λ (v : OpView). v.reading) owes.rest; hits = ap (λ (v : OpView). v.hits) owes.rest; waits = ap (λ (v : OpView). v.waits) owes.rest; directs = let d = ap (λ (v : OpView). v.directs) owes.rest in omega (arith, d, one); failed = let d = ap (λ (v : OpView). v.failed) owes.rest in omega (arith, d) })
+    (record { opened = refl; served = refl; hit = refl; missed = refl; bypassed = refl }) here refl (still_home c c2 x c2.out leaves.enters)
+    (λ w. let s = leaves.loses w in let h = ap (held w) owes.rest in omega (arith, s, h))
+    (gained_one b.number c.entries c2.entries x (ap (λ (v : CoreView). v.entries) leaves.enters) (ap Some mine))
+    (λ t. made l l (Loading op disk part) (Reading op2) t (together t g) 0 0 (omega arith) (omega (arith, one, more)) (omega arith)) (omega arith) (inl (omega arith))
+
 -- the pin goes back, and the core is as it was
 pub looked_step : (b : BookView) (l : LineView) (op op2 : OpView) (pin : Mark) (part : Part) (looks : ℕ) (met : Option Fell) (c c2 : CoreView) → c2 ≡ c → ((w : Mark → ℕ) → sum_by w op2.pins ≡ sum_by w op.pins + w pin) →
     op2 ≡ record op { pins = op2.pins; looks = looks; met = met; given = Nothing } → Step b l (Looking op pin part) c b l (Reading op2) c2
@@ -258,6 +274,13 @@ look_next b l op op2 pin part gives =
     (ap (λ (v : OpView). v.failed) gives.rest) (ap (λ (v : OpView). v.leaves) gives.rest)
     (λ w. let n = gives.loses w in let h = ap (held w) gives.rest in omega (arith, n, h))
 
+pub load_next : (b : BookView) (l : LineView) (op op2 : OpView) (disk : Mark) (part : Part) → GivesDisk op disk part op2 → Own b l (Reading op) b l (Loading op2 disk part)
+load_next b l op op2 disk part gives =
+    op_own b l (Reading op) (Loading op2 disk part) op op2 (record { asks = refl; fails = refl; shares_are = λ i. refl }) (record { asks = refl; fails = refl; shares_are = λ i. refl })
+    (record { reading = ap (λ (v : OpView). v.reading) gives.rest; hits = ap (λ (v : OpView). v.hits) gives.rest; waits = ap (λ (v : OpView). v.waits) gives.rest; directs = let d = ap (λ (v : OpView). v.directs) gives.rest in omega (arith, d); failed = let d = ap (λ (v : OpView). v.failed) gives.rest in omega (arith, d) })
+    (ap (λ (v : OpView). v.failed) gives.rest) (ap (λ (v : OpView). v.leaves) gives.rest)
+    (λ w. let n = gives.loses w in let h = ap (held w) gives.rest in omega (arith, n, h))
+
 pub end_next : (b : BookView) (l : LineView) (op op2 : OpView) → GivesEnd op op2 → Own b l (Reading op) b l (Ending op2)
 end_next b l op op2 gives =
     op_own b l (Reading op) (Ending op2) op op2 (record { asks = refl; fails = refl; shares_are = λ i. refl }) (record { asks = refl; fails = refl; shares_are = λ i. refl })
@@ -270,20 +293,17 @@ end_next b l op op2 gives =
 pub none_more : (n : ℕ) → n + 0 ≡ n
 none_more n = omega arith
 
-none_times : (k : ℕ) → k * 0 ≡ 0
-none_times k = omega arith
-
-asked_more : (t : Tally) (hits waits : ℕ) → with_asked t hits waits ≡ together t (record nothing { hits = hits; waits = waits })
-asked_more t hits waits =
-    rw (none_more t.opened, none_more t.served, none_more t.hit, none_more t.missed, none_more t.bypassed, none_more t.directs, none_more t.landed, none_more t.faults, none_more t.wants) refl
+asked_more : (t : Tally) (hits waits directs : ℕ) → with_asked t hits waits directs ≡ together t (record nothing { hits = hits; waits = waits; directs = directs })
+asked_more t hits waits directs =
+    rw (none_more t.opened, none_more t.served, none_more t.hit, none_more t.missed, none_more t.bypassed, none_more t.landed, none_more t.faults, none_more t.wants) refl
 
 pub planned_step : (b : BookView) (l : LineView) (number n : ℕ) (piece : Piece) (op : OpView) (c c2 : CoreView) → Plans c n piece op c2 → n ≡ b.number → Step b l (Planning number piece) c b l (Reading op) c2
 planned_step b l number n piece op c c2 plans mine =
-    let g : Tally = record nothing { hits = op.hits; waits = op.waits } in
+    let g : Tally = record nothing { hits = op.hits; waits = op.waits; directs = op.directs } in
     step_on b b l l (Planning number piece) (Reading op) c c2 g refl refl refl plans.unchanged
     (λ w. let s = plans.gains w in omega (arith, s))
     (record {
-      mine = subst (λ (m : ℕ). tally m c2.entries ≡ together (tally m c.entries) g) mine (plans.mine ∙ asked_more (tally n c.entries) op.hits op.waits);
+      mine = subst (λ (m : ℕ). tally m c2.entries ≡ together (tally m c.entries) g) mine (plans.mine ∙ asked_more (tally n c.entries) op.hits op.waits op.directs);
       others = λ m other. plans.others m (eq_sym m n (ap (λ (k : ℕ). m == k) mine ∙ other));
     })
     (λ t old. quiet b b l l (Planning number piece) (Reading op) t (together t g) refl refl (omega arith) (omega arith) (omega arith)
@@ -291,7 +311,7 @@ planned_step b l number n piece op c c2 plans mine =
     (rw (shares_here c.instance op plans.begins.reads.instance_is) (record {
       hit = omega arith;
       missed = omega arith;
-      bypassed = let d = ap (λ (k : ℕ). c.block_size * k) plans.directs_is in let z = none_times c.block_size in omega (arith, d, z);
+      bypassed = omega arith;
     }))
     (λ i other. rw (shares_there i op (ap (λ (k : ℕ). k == i) plans.begins.reads.instance_is ∙ eq_sym i c.instance other)) (shrinks_same no_shares))
 

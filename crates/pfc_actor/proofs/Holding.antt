@@ -95,4 +95,5 @@ shares_held i b (st.Full op job) = op_held i b (st.Full op job) op refl (λ w. o
 shares_held i b (st.Running op ticket) = op_held i b (st.Running op ticket) op refl (λ w. omega arith)
 shares_held i b (st.Directing op leave) = op_held i b (st.Directing op leave) op refl (λ w. omega arith)
 shares_held i b (st.Looking op pin part) = op_held i b (st.Looking op pin part) op refl (λ w. omega arith)
+shares_held i b (st.Loading op disk part) = op_held i b (st.Loading op disk part) op refl (λ w. omega arith)
 shares_held i b (st.Ending op) = op_held i b (st.Ending op) op refl (λ w. omega arith)

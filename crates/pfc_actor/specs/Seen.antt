@@ -6,7 +6,7 @@ use Rattle.pfc_actor.specs.StageView.{StageView, Rest, Wanted, Making, Joining, 
 abbrev pub seen : {W : Type 0} → Stage W → StageView
 seen stage.Rest = Rest
 seen (stage.Wanted wanted) = Wanted wanted
-seen (stage.Making wanted) = Making wanted
+seen (stage.Making wanted core) = Making wanted
 seen (stage.Joining wanted) = Joining wanted
 seen (stage.Planning number piece) = Planning number piece
 seen (stage.Closing number) = Closing number

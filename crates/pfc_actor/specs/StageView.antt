@@ -24,4 +24,5 @@ pub data StageView : Type 0 where
   Running : (op : OpView) (ticket : Mark) → StageView
   Directing : (op : OpView) (leave : LeaveView) → StageView
   Looking : (op : OpView) (pin : Mark) (part : Part) → StageView
+  Loading : (op : OpView) (disk : Mark) (part : Part) → StageView
   Ending : (op : OpView) → StageView

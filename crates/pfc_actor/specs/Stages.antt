@@ -9,8 +9,8 @@ use Rattle.pfc_client.specs.Session.{place_at, is_free}
 use Rattle.pfc_client.specs.Permitted.{most_bytes}
 use Rattle.pfc_core.specs.Marks.{Mark, TicketKind}
 use Rattle.pfc_core.specs.View.{CoreView}
-use Rattle.pfc_read.specs.OpView.{OpView, Given, Nothing, ToRun, ToFill, ToLook, ToEnd, held}
-use Rattle.pfc_read.specs.Steps.{IsTokenOf, IsLeaveOf, IsPinFor}
+use Rattle.pfc_read.specs.OpView.{OpView, Given, Nothing, ToRun, ToFill, ToLook, ToRead, ToEnd, held}
+use Rattle.pfc_read.specs.Steps.{IsTokenOf, IsLeaveOf, IsPinFor, IsDiskFor}
 use Rattle.pfc_actor.specs.StageView as st
 use Rattle.pfc_actor.specs.StageView.{StageView}
 use Rattle.pfc_actor.specs.Books.{BookView, IsNext, open_weight}
@@ -23,6 +23,7 @@ stage_weight w (st.Full op job) = held w op + w job
 stage_weight w (st.Running op ticket) = held w op + w ticket
 stage_weight w (st.Directing op leave) = held w op
 stage_weight w (st.Looking op pin part) = held w op + w pin
+stage_weight w (st.Loading op disk part) = held w op + w disk
 stage_weight w (st.Ending op) = held w op
 stage_weight w _ = 0
 
@@ -38,6 +39,7 @@ owed (st.Full op job) = op.leaves
 owed (st.Running op ticket) = op.leaves
 owed (st.Directing op leave) = op.leaves + 1
 owed (st.Looking op pin part) = op.leaves
+owed (st.Loading op disk part) = op.leaves
 owed (st.Ending op) = op.leaves
 owed _ = 0
 
@@ -56,6 +58,7 @@ failing (st.Full op job) = op.failed
 failing (st.Running op ticket) = op.failed
 failing (st.Directing op leave) = op.failed
 failing (st.Looking op pin part) = op.failed
+failing (st.Loading op disk part) = op.failed
 failing (st.Ending op) = op.failed
 failing _ = 0
 
@@ -71,6 +74,7 @@ doomed (st.Full op job) = is_fault op.met
 doomed (st.Running op ticket) = is_fault op.met
 doomed (st.Directing op leave) = is_fault op.met
 doomed (st.Looking op pin part) = is_fault op.met
+doomed (st.Loading op disk part) = is_fault op.met
 doomed (st.Ending op) = is_fault op.met
 doomed _ = 0
 
@@ -93,6 +97,7 @@ shares i (st.Full op job) = op_shares i op
 shares i (st.Running op ticket) = op_shares i op
 shares i (st.Directing op leave) = op_shares i op
 shares i (st.Looking op pin part) = op_shares i op
+shares i (st.Loading op disk part) = op_shares i op
 shares i (st.Ending op) = op_shares i op
 shares i _ = no_shares
 
@@ -138,6 +143,7 @@ AtWork b (st.Full op job) = GoesOn b op Nothing × (job.instance ≡ op.reading.
 AtWork b (st.Running op ticket) = GoesOn b op ToRun × IsTokenOf op.reading TicketKind ticket
 AtWork b (st.Directing op leave) = GoesOn b op (ToFill leave.part) × IsLeaveOf op.reading leave
 AtWork b (st.Looking op pin part) = GoesOn b op (ToLook part) × IsPinFor op.reading part pin
+AtWork b (st.Loading op disk part) = GoesOn b op (ToRead part) × IsDiskFor op.reading part disk
 AtWork b (st.Ending op) = GoesOn b op ToEnd × (op.leaves ≡ 0)
 
 -- the next step of the client is one on this core

@@ -48,7 +48,7 @@ pub enum Place {
     Alone,
     /// It wants a file opened.
     Wants,
-    /// It makes a core of its file, or enters one that is there.
+    /// It enters a core of its file.
     Enters,
     /// On the core of this number.
     Core(u64),
@@ -70,7 +70,7 @@ fn spend<W: World>(stage: Stage<W>) {
     match stage {
         Stage::Rest => (),
         Stage::Wanted(_) => (),
-        Stage::Making(_) => (),
+        Stage::Making(_, _) => (),
         Stage::Joining(_) => (),
         Stage::Planning(_, _) => (),
         Stage::Closing(_) => (),
@@ -121,7 +121,7 @@ fn next_at<W: World, O: Origin<W>>(
     match stage {
         Stage::Rest => Stage::Rest,
         Stage::Wanted(wanted) => Stage::Wanted(wanted),
-        Stage::Making(wanted) => open(book, line, core, wanted),
+        Stage::Making(wanted, _) => open(book, line, core, wanted),
         Stage::Joining(wanted) => open(book, line, core, wanted),
         Stage::Planning(number, piece) => plan(alloc, book, line, core, number, piece),
         Stage::Closing(number) => close(book, line, core, number),
@@ -132,12 +132,12 @@ fn next_at<W: World, O: Origin<W>>(
     }
 }
 
-/// The stage of a client that begins to make a core of the file that it wants, or to enter one.
+/// The stage of a client that enters a core of the file that it wants: one that was made for it, or one that was there.
 fn entered<W: World, O: Origin<W>>(
     book: &Book<W>,
     line: &Line<W, O>,
     stage: Stage<W>,
-    makes: bool,
+    made: Option<u64>,
 ) -> Stage<W>
     requires work { AtWork book.now (seen stage) }
     requires caused { IsCaused book.now line.now (seen stage) }
@@ -146,12 +146,10 @@ fn entered<W: World, O: Origin<W>>(
     ensures step { Own book.now line.now (seen stage) book.now line.now (seen result) }
 {
     match stage {
-        Stage::Wanted(wanted) => {
-            if makes {
-                return Stage::Making(wanted);
-            }
-            Stage::Joining(wanted)
-        }
+        Stage::Wanted(wanted) => match made {
+            Some(core) => Stage::Making(wanted, core),
+            None => Stage::Joining(wanted),
+        },
         other => other,
     }
 }
@@ -170,7 +168,7 @@ fn without_core<W: World, O: Origin<W>>(
 {
     match stage {
         Stage::Wanted(wanted) => without(book, line, wanted),
-        Stage::Making(wanted) => without(book, line, wanted),
+        Stage::Making(wanted, _) => without(book, line, wanted),
         Stage::Joining(wanted) => without(book, line, wanted),
         other => other,
     }
@@ -220,7 +218,7 @@ impl<W: World, O: Origin<W>> Client<W, O> {
         match &self.stage {
             Stage::Rest => Place::Alone,
             Stage::Wanted(_) => Place::Wants,
-            Stage::Making(_) => Place::Enters,
+            Stage::Making(_, _) => Place::Enters,
             Stage::Joining(_) => Place::Enters,
             Stage::Planning(number, _) => place_of(&self.book, *number),
             Stage::Closing(number) => place_of(&self.book, *number),
@@ -236,50 +234,58 @@ impl<W: World, O: Origin<W>> Client<W, O> {
         matches!(&self.stage, Stage::Planning(_, _) | Stage::Closing(_))
     }
 
-    /// Whether it makes a core of this path.
+    /// Whether a core of this path was made for it, which it hasn't entered yet.
     pub fn is_making(&self, path: &Path) -> bool {
         match &self.stage {
-            Stage::Making(wanted) => wanted.path() == path,
+            Stage::Making(wanted, _) => wanted.path() == path,
             _ => false,
         }
     }
 
-    /// Whether it makes a core, or has a flight to run.
+    /// Whether it has a core that was made for it to enter, or a flight to run.
     pub fn is_busy(&self) -> bool {
         match &self.stage {
-            Stage::Making(_) => true,
+            Stage::Making(_, _) => true,
             Stage::Reading(op) => op.has_ticket(),
             _ => false,
         }
     }
 
-    /// The path of the file that it wants opened.
-    pub fn wanted(&self) -> Option<&Path>
-        ensures { IfSome result (λ path. Wants path.now self.now.stage) }
+    /// The file that it wants opened.
+    pub fn wanted(&self) -> Option<&Wanted<W>>
+        ensures { IfSome result (λ w. Wants w.now.path self.now.stage) }
     {
         match &self.stage {
-            Stage::Wanted(wanted) => Some(wanted.path()),
+            Stage::Wanted(wanted) => Some(wanted),
             _ => None,
         }
     }
 
-    /// The file whose core it makes or enters.
+    /// The file whose core it enters.
     pub fn entering(&self) -> Option<&Wanted<W>>
         ensures { IfSome result (λ w. (c : CoreView) → c.path ≡ w.now.path → Here self.now.book self.now.stage c) }
     {
         match &self.stage {
-            Stage::Making(wanted) => Some(wanted),
+            Stage::Making(wanted, _) => Some(wanted),
             Stage::Joining(wanted) => Some(wanted),
             _ => None,
         }
     }
 
-    /// It begins to make a core of the file that it wants, or to enter one.
-    pub fn enter(&mut self, makes: bool)
+    /// The number of the core that was made for its open.
+    pub fn made(&self) -> Option<u64> {
+        match &self.stage {
+            Stage::Making(_, core) => Some(*core),
+            _ => None,
+        }
+    }
+
+    /// It enters a core of the file that it wants: the one of this number, which was made for it, or one that was there.
+    pub fn enter(&mut self, made: Option<u64>)
         ensures { Own self.old.book self.old.line self.old.stage self.new.book self.new.line self.new.stage }
     {
         let stage = mem::replace(&mut self.stage, Stage::Rest);
-        let next = entered(&self.book, &self.line, stage, makes);
+        let next = entered(&self.book, &self.line, stage, made);
         spend(mem::replace(&mut self.stage, next));
     }
 

@@ -1,5 +1,6 @@
 // How a client reads.
 ghost use Rattle.std.specs.Prelude.{◌≡◌, ◌<◌, ◌≤◌, ℕ, Some};
+ghost use Rattle.pfc_base.specs.Block.{IsPartOf};
 ghost use Rattle.pfc_core.specs.Marks.{Mark};
 ghost use Rattle.pfc_client.specs.Session.{place_at};
 ghost use Rattle.pfc_actor.specs.StageView as st;
@@ -11,7 +12,7 @@ use crate::book::Book;
 use crate::stage::Stage;
 use pfc_base::{Part, Piece};
 use pfc_client::{Octets, Reply};
-use pfc_core::{FileCore, Flight, Job, Leave, Line, Pin, Strayed, Ticket};
+use pfc_core::{FileCore, Flight, Job, Leave, Line, OnDisk, Pin, Strayed, Ticket};
 use pfc_log::{DropCause, Fell};
 use pfc_read::{Action, Answer, Done, ReadOp, Saw};
 use pfc_world::{Origin, World};
@@ -144,6 +145,28 @@ fn look<W: World, O: Origin<W>>(
     }
 }
 
+/// Leaves a part that is on disk, since nobody lends the file's store.
+fn leave<W: World, O: Origin<W>>(
+    book: &Book<W>,
+    line: &Line<W, O>,
+    core: &mut FileCore<W>,
+    mut op: ReadOp<W>,
+    disk: OnDisk<W>,
+    part: Part,
+) -> Stage<W>
+    requires part { IsPartOf disk.size disk.block_size part }
+    requires work { AtWork book.now (st.Loading op disk part) }
+    requires knows { Knows book.now (st.Loading op disk part) core.old }
+    requires here { op.reading.instance ≡ core.old.instance }
+    requires caused { IsCaused book.now line.now (st.Loading op disk part) }
+    ensures work { AtWork book.now (seen result) }
+    ensures caused { IsCaused book.now line.now (seen result) }
+    ensures step { Step book.now line.now (st.Loading op disk part) core.old book.now line.now (seen result) core.new }
+{
+    op.owe(core.leave_broken(disk, part));
+    Stage::Reading(op)
+}
+
 /// Ends the read with its reply.
 fn finish<W: World, O: Origin<W>>(
     book: &mut Book<W>,
@@ -196,6 +219,7 @@ pub(crate) fn act<W: World, O: Origin<W>>(
         Action::Run(ticket) => run(alloc, book, line, core, op, ticket),
         Action::Direct(leave) => direct(book, line, op, leave),
         Action::Look(pin, part) => look(book, line, core, op, pin, part),
+        Action::Disk(disk, part) => leave(book, line, core, op, disk, part),
         Action::Finish => finish(book, line, core, op),
     }
 }

@@ -66,8 +66,8 @@ pub enum Stage<W: World> {
     Rest,
     /// An open whose size is known.
     Wanted(Wanted<W>),
-    /// It makes a core of its file.
-    Making(Wanted<W>),
+    /// It made the core of this number, of its file.
+    Making(Wanted<W>, u64),
     /// It found a core of its file.
     Joining(Wanted<W>),
     /// A read of an open descriptor that isn't planned yet.

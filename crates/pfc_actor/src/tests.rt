@@ -4,7 +4,7 @@ ghost use Rattle.pfc_core.specs.Marks.{Mark};
 ghost use Rattle.pfc_actor.specs.Clients.{holds};
 
 use crate::{Book, Client, Place};
-use pfc_base::{Path, block_count};
+use pfc_base::{BlockSet, Path, block_count};
 use pfc_client::{Reply, push_reply};
 use pfc_core::{FileCore, Line};
 use pfc_log::push_log;
@@ -95,7 +95,7 @@ fn answer_alone(alloc: Global) -> Result<(Place, Place, Vec<Reply>), Fail> {
         client.step_alone();
     }
     let wants = client.place();
-    client.enter(true);
+    client.enter(Some(0));
     let enters = client.place();
     client.give_up();
     let (_number, _link, replies) = client.end();
@@ -122,10 +122,12 @@ fn core_of(alloc: Global, host: &mut RowHost) -> Result<FileCore<RowWorld>, Fail
     let mut line = Line::new(host.link(alloc, 2)?);
     let path = Path::read(b"/a")?;
     let known = line.stat(&path)?.ok_or("no file")?;
-    if block_count(known.size(), 4096) > 16777216 {
+    let count = block_count(known.size(), 4096);
+    if count > 16777216 {
         return Err(Fail::new("too many blocks"));
     }
-    Ok(FileCore::new(alloc, 0, known, 4096)?)
+    let start = BlockSet::new(alloc, count as u32)?;
+    Ok(FileCore::new(alloc, 0, known, 4096, start)?)
 }
 
 /// One step of the only client of a core.
@@ -138,7 +140,7 @@ fn step(alloc: Global, client: &mut RowClient, core: &mut FileCore<RowWorld>)
     core.own();
     match client.place() {
         Place::Alone => client.step_alone(),
-        Place::Wants => client.enter(false),
+        Place::Wants => client.enter(None),
         Place::Enters => {
             let Some(wanted) = client.entering() else {
                 return;

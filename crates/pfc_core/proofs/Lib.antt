@@ -3,10 +3,24 @@ mod Numbered
 mod Shelves
 mod Parts
 mod Tied
+mod PinsTied
+mod HereTied
 mod Owned
 mod Kept
+mod Guests
+mod Bare
+mod Found
+mod Said
+mod Pinning
+mod Uncached
+mod Written
+mod Loaned
+mod Given
 pub mod Weights
 mod Outs
+mod Flown
+mod Lent
+mod Rooms
 mod Begun
 mod Leaving
 mod Looking

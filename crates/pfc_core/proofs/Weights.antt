@@ -1,5 +1,5 @@
 -- The marks of what is out, weighed.
-use Rattle.std.proofs.Common.{◌≡◌, ℕ, ◌+◌, List, [], ◌∷◌, ◌++◌, map, sym, refl, ap, ◌∙◌, subst, arith, Bool, true, false, ◌==◌, ◌&&◌, eq-eqb}
+use Rattle.std.proofs.Common.{◌≡◌, ℕ, ◌+◌, List, [], ◌∷◌, ◌++◌, map, sym, refl, ap, ◌∙◌, subst, arith, Bool, true, false, Option, Some, None, ◌==◌, ◌&&◌, eq-eqb}
 use Rattle.std.specs.Prelude.{sum_by, count_by, flat_map, if◌then◌else◌}
 use Rattle.std.specs.Cmp.Lexicographic.{pointwise}
 use Rattle.std.proofs.lemmas.Bool.{eqb-true}
@@ -8,8 +8,8 @@ use Rattle.std.proofs.lemmas.List.Sums.{sum_by-cons, sum_by-append}
 use Rattle.pfc_core.specs.declared.slot.Slot.{Slot}
 use Rattle.pfc_core.specs.declared.held.Held.{Held}
 use Rattle.pfc_core.specs.Held.{is_held}
-use Rattle.pfc_core.specs.Marks.{Kind, StayKind, ReadingKind, PinKind, kind_code, Mark, same, sees}
-use Rattle.pfc_core.specs.Out.{Home, mark_in, flights_at, out_of}
+use Rattle.pfc_core.specs.Marks.{Kind, StayKind, ReadingKind, PinKind, DiskKind, LoanKind, kind_code, Mark, same, sees}
+use Rattle.pfc_core.specs.Out.{Home, mark_in, flights_at, loan_of, loan_at, out_of}
 use Rattle.pfc_core.proofs.Entries.{by_bool, sum_map}
 use Rattle.pfc_core.proofs.Numbered.{held_is}
 
@@ -24,17 +24,19 @@ kind_weight kind h w ps = sum_by (λ p. w (mark_in kind h p)) ps
 abbrev pub slot_weight : Home → (Mark → ℕ) → Slot → ℕ
 slot_weight h w s = sum_by w (flights_at h s)
 
+-- what the loan weighs, where one is out
+abbrev pub loan_weight : Home → (Mark → ℕ) → Option ℕ → ℕ
+loan_weight h w loan = sum_by w (loan_at h loan)
+
 -- all that is out, weighed kind by kind
-pub weigh_out : (w : Mark → ℕ) (h : Home) (stays readings pins : List Held) (slots : List Slot) → sum_by w (out_of h stays readings pins slots) ≡ kind_weight StayKind h w stays + kind_weight ReadingKind h w readings + kind_weight PinKind h w pins + sum_by (slot_weight h w) slots
-weigh_out w h stays readings pins slots =
-    let a = sum_by-append w (map (mark_in StayKind h) stays ++ map (mark_in ReadingKind h) readings ++ map (mark_in PinKind h) pins) (flat_map (flights_at h) slots) in
-    let b = sum_by-append w (map (mark_in StayKind h) stays ++ map (mark_in ReadingKind h) readings) (map (mark_in PinKind h) pins) in
-    let c = sum_by-append w (map (mark_in StayKind h) stays) (map (mark_in ReadingKind h) readings) in
-    let d = sum_map w (mark_in StayKind h) stays in
-    let e = sum_map w (mark_in ReadingKind h) readings in
-    let f = sum_map w (mark_in PinKind h) pins in
-    let g = sum_flat w (flights_at h) slots in
-    omega (arith, a, b, c, d, e, f, g)
+pub weigh_out : (w : Mark → ℕ) (h : Home) (stays readings pins disks : List Held) (loan : Option ℕ) (slots : List Slot) → sum_by w (out_of h stays readings pins disks loan slots) ≡ kind_weight StayKind h w stays + kind_weight ReadingKind h w readings + kind_weight PinKind h w pins + kind_weight DiskKind h w disks + loan_weight h w loan + sum_by (slot_weight h w) slots
+weigh_out w h stays readings pins disks loan slots =
+    let a = sum_by-append w (map (mark_in StayKind h) stays ++ map (mark_in ReadingKind h) readings ++ map (mark_in PinKind h) pins ++ map (mark_in DiskKind h) disks ++ loan_at h loan) (flat_map (flights_at h) slots) in
+    let b = sum_by-append w (map (mark_in StayKind h) stays ++ map (mark_in ReadingKind h) readings ++ map (mark_in PinKind h) pins ++ map (mark_in DiskKind h) disks) (loan_at h loan) in
+    let c = sum_by-append w (map (mark_in StayKind h) stays ++ map (mark_in ReadingKind h) readings ++ map (mark_in PinKind h) pins) (map (mark_in DiskKind h) disks) in
+    let d = sum_by-append w (map (mark_in StayKind h) stays ++ map (mark_in ReadingKind h) readings) (map (mark_in PinKind h) pins) in
+    let e = sum_by-append w (map (mark_in StayKind h) stays) (map (mark_in ReadingKind h) readings) in
+    omega (arith, a, b, c, d, e, sum_map w (mark_in StayKind h) stays, sum_map w (mark_in ReadingKind h) readings, sum_map w (mark_in PinKind h) pins, sum_map w (mark_in DiskKind h) disks, sum_flat w (flights_at h) slots)
 
 path_is : (a b : List ℕ) → pointwise ◌==◌ a b ≡ true → a ≡ b
 path_is [] [] h = refl
@@ -135,3 +137,15 @@ unseen m x apart = by_bool (same m x) (λ yes. absurd (apart yes)) (λ off. ap {
 -- a mark is not among those of another kind
 pub other_kind : (kind other : Kind) (h : Home) (p : Held) (ps : List Held) → (kind_code kind ≡ kind_code other → ⊥) → kind_weight other h (sees (mark_in kind h p)) ps ≡ 0
 other_kind kind other h p ps apart = sum_zero (λ q. sees (mark_in kind h p) (mark_in other h q)) ps (λ q. unseen (mark_in kind h p) (mark_in other h q) (λ yes. apart (same_kind (mark_in kind h p) (mark_in other h q) yes)))
+
+-- what the loan weighs where none of its numbers weighs anything
+pub loan_zero : (w : Mark → ℕ) (h : Home) (loan : Option ℕ) → ((n : ℕ) → w (mark_in LoanKind h (loan_of n)) ≡ 0) → loan_weight h w loan ≡ 0
+loan_zero w h None none = refl
+loan_zero w h (Some n) none = omega (arith, none n, sum_by-cons w (mark_in LoanKind h (loan_of n)) [])
+
+pub loan_one : (w : Mark → ℕ) (h : Home) (n : ℕ) → loan_weight h w (Some n) ≡ w (mark_in LoanKind h (loan_of n))
+loan_one w h n = omega (arith, sum_by-cons w (mark_in LoanKind h (loan_of n)) [])
+
+-- a mark is not the loan if it is of another kind
+pub other_loan : (kind : Kind) (h : Home) (p : Held) (loan : Option ℕ) → (kind_code kind ≡ 6 → ⊥) → loan_weight h (sees (mark_in kind h p)) loan ≡ 0
+other_loan kind h p loan apart = loan_zero (sees (mark_in kind h p)) h loan (λ n. unseen (mark_in kind h p) (mark_in LoanKind h (loan_of n)) (λ yes. apart (same_kind (mark_in kind h p) (mark_in LoanKind h (loan_of n)) yes)))

@@ -1,19 +1,26 @@
 -- What each call does.
-use Rattle.std.specs.Prelude.{◌≡◌, ◌+◌, ◌⊎◌, ℕ, ◌==◌, ◌&&◌, [], ◌∷◌, ◌++◌, IsTrue, if◌then◌else◌, sum_by, Some}
+use Rattle.std.specs.Prelude.{◌≡◌, ◌+◌, ◌⊎◌, ℕ, true, false, ◌==◌, ◌&&◌, [], ◌∷◌, ◌++◌, IsTrue, if◌then◌else◌, sum_by, Some}
 use Rattle.std.specs.Cmp.Lexicographic.{pointwise}
 use Rattle.pfc_log.specs.declared.entry.Entry.{Entry}
-use Rattle.pfc_log.specs.declared.entry.Entry.TheVariants.{Opened, Closed, Begin, Join, Hit, Landed, Failed, Dropped, Left}
-use Rattle.pfc_log.specs.declared.entry.Spot.TheVariants.{Ram}
+use Rattle.pfc_log.specs.declared.entry.Entry.TheVariants.{Opened, Closed, Begin, Join, Hit, Direct, Landed, Failed, Dropped, Left}
+use Rattle.pfc_log.specs.declared.entry.Spot.TheVariants.{Ram, Disk}
+use Rattle.pfc_log.specs.declared.entry.Way.TheVariants as way
+use Rattle.pfc_log.specs.declared.entry.Uncached.{Uncached}
+use Rattle.pfc_log.specs.declared.start.Start.TheVariants as start
+use Rattle.pfc_base.specs.declared.block.Part.{Part}
+use Rattle.pfc_base.specs.BlockSet.{is_member}
 use Rattle.pfc_log.specs.declared.entry.Fell.{Fell}
 use Rattle.pfc_log.specs.declared.entry.DropCause.{DropCause}
-use Rattle.pfc_log.specs.Lawful.{MayDrop}
+use Rattle.pfc_log.specs.Lawful.{MayDrop, IsCached}
 use Rattle.pfc_log.specs.Owners.{owner}
 use Rattle.pfc_log.specs.Views.{Away, place, begins}
 use Rattle.pfc_core.specs.declared.token.Strayed.{Strayed}
 use Rattle.pfc_core.specs.declared.token.Decision.{Decision}
-use Rattle.pfc_core.specs.declared.token.Decision.TheVariants.{Resident, Joined, Fetch}
+use Rattle.pfc_core.specs.declared.token.Decision.TheVariants.{Resident, Joined, Stored, Fetch}
+use Rattle.pfc_core.specs.declared.token.Decision.TheVariants as decision
+use Rattle.pfc_core.specs.Leave.{LeaveView}
 use Rattle.pfc_core.specs.Leaves.{is_here_at, is_flying_at, leaves, pins_on}
-use Rattle.pfc_core.specs.Marks.{Kind, StayKind, ReadingKind, TicketKind, PinKind, JobKind, Mark, listed, Gains, Loses, Swaps}
+use Rattle.pfc_core.specs.Marks.{Kind, StayKind, ReadingKind, TicketKind, PinKind, JobKind, DiskKind, Mark, listed, Gains, Loses, Swaps}
 use Rattle.pfc_core.specs.View.{CoreView, entered}
 
 -- a token of this kind that the core gave out, for a client
@@ -59,9 +66,28 @@ pub record PinsOn (old : CoreView) (n i : ℕ) (pin : Mark) (e : Entry) (new : C
   pub gains : Gains old.out pin new.out
   pub enters : new ≡ entered old e new.out
 
--- a ticket and a pin for a client on a block that was away, with an entry
-pub record Fetches (old : CoreView) (n i : ℕ) (ticket pin : Mark) (new : CoreView) : Type 0 where
+-- the file isn't cached: a leave for a client, with an entry
+pub record GoesDirect (old : CoreView) (n : ℕ) (part : Part) (leave : LeaveView) (new : CoreView) : Type 0 where
+  pub why : Uncached
+  pub uncached : old.first ≡ start.Uncached why
+  pub leave_is : leave ≡ record { client = n; path = old.path; size = old.size; block_size = old.block_size; part = part }
+  pub enters : new ≡ entered old (Direct part.block n (way.Uncached why)) old.out
+
+-- a token for a client on a block that is on disk, and neither in memory nor in flight, with an entry
+pub record FindsOnDisk (old : CoreView) (n i : ℕ) (disk : Mark) (new : CoreView) : Type 0 where
+  pub cached : IsCached old.first
   pub away : place i old.entries ≡ Away
+  pub stored : is_member old.stored i ≡ true
+  pub found : IsOf old DiskKind n disk
+  pub block_is : disk.block ≡ i
+  pub gains : Gains old.out disk new.out
+  pub enters : new ≡ entered old (Hit i Disk n) new.out
+
+-- a ticket and a pin for a client on a block that was neither in memory, nor in flight, nor on disk, with an entry
+pub record Fetches (old : CoreView) (n i : ℕ) (ticket pin : Mark) (new : CoreView) : Type 0 where
+  pub cached : IsCached old.first
+  pub away : place i old.entries ≡ Away
+  pub absent : is_member old.stored i ≡ false
   pub fetches : IsOf old TicketKind n ticket
   pub pins : IsOf old PinKind n pin
   pub ticket_block : ticket.block ≡ i
@@ -74,11 +100,13 @@ pub record Fetches (old : CoreView) (n i : ℕ) (ticket pin : Mark) (new : CoreV
   pub gains : (w : Mark → ℕ) → sum_by w new.out ≡ sum_by w old.out + w ticket + w pin
   pub enters : new ≡ entered old (Begin ticket.number i n) new.out
 
--- the first that fits: the block is in memory, in flight, or away
-abbrev pub Decides : {W : Type 0} → CoreView → ℕ → ℕ → Decision W → CoreView → Type 0
-Decides old n i (Resident pin) new = IsTrue (is_here_at pin.flight (place i old.entries)) × PinsOn old n i pin (Hit i Ram n) new
-Decides old n i (Joined pin) new = IsTrue (is_flying_at pin.flight (place i old.entries)) × PinsOn old n i pin (Join pin.flight i n) new
-Decides old n i (Fetch ticket pin) new = Fetches old n i ticket pin new
+-- the first that fits: the file isn't cached; the block is in memory, in flight, on disk, or none of these
+abbrev pub Decides : {W : Type 0} → CoreView → ℕ → Part → Decision W → CoreView → Type 0
+Decides old n part (decision.Direct leave) new = GoesDirect old n part leave new
+Decides old n part (Resident pin) new = IsCached old.first × IsTrue (is_here_at pin.flight (place part.block old.entries)) × PinsOn old n part.block pin (Hit part.block Ram n) new
+Decides old n part (Joined pin) new = IsCached old.first × IsTrue (is_flying_at pin.flight (place part.block old.entries)) × PinsOn old n part.block pin (Join pin.flight part.block n) new
+Decides old n part (Stored disk) new = FindsOnDisk old n part.block disk new
+Decides old n part (Fetch ticket pin) new = Fetches old n part.block ticket pin new
 
 -- the ticket's job in its place, with an entry; the client of the ticket began the flight
 pub record Lands (old : CoreView) (ticket job : Mark) (new : CoreView) : Type 0 where

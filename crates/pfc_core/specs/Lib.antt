@@ -21,3 +21,9 @@ pub mod Finishes
 pub mod LineView
 pub mod Line
 pub mod New
+pub mod Sets
+pub mod Loans
+pub mod Lending
+pub mod Jobs
+pub mod Disks
+pub mod Pinned

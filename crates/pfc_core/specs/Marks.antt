@@ -8,6 +8,8 @@ pub data Kind : Type 0 where
   TicketKind : Kind
   PinKind : Kind
   JobKind : Kind
+  DiskKind : Kind
+  LoanKind : Kind
 
 abbrev pub kind_code : Kind → ℕ
 kind_code StayKind = 0
@@ -15,6 +17,8 @@ kind_code ReadingKind = 1
 kind_code TicketKind = 2
 kind_code PinKind = 3
 kind_code JobKind = 4
+kind_code DiskKind = 5
+kind_code LoanKind = 6
 
 -- The core that gave it out, its number among those of its kind, whose it is, the file with its block size, the block and
 -- the flight that it is about, and the client that began the flight. For a ticket and a job the number is the flight's.

@@ -1,8 +1,8 @@
 -- The marks of what is out, from what is kept of it.
-use Rattle.std.specs.Prelude.{ℕ, if◌then◌else◌, List, [], ◌∷◌, ◌++◌, map, flat_map}
+use Rattle.std.specs.Prelude.{ℕ, if◌then◌else◌, List, [], ◌∷◌, ◌++◌, map, flat_map, Option, Some, None}
 use Rattle.pfc_core.specs.declared.held.Held.{Held}
 use Rattle.pfc_core.specs.declared.slot.Slot.{Slot}
-use Rattle.pfc_core.specs.Marks.{Kind, StayKind, ReadingKind, TicketKind, PinKind, JobKind, Mark}
+use Rattle.pfc_core.specs.Marks.{Kind, StayKind, ReadingKind, TicketKind, PinKind, JobKind, DiskKind, LoanKind, Mark}
 
 -- a file with a block size, and the core's number
 pub record Home : Type 0 where
@@ -18,9 +18,18 @@ mark_in kind h p = record { kind = kind; instance = h.instance; number = p.numbe
 abbrev pub flight_of : Slot → Held
 flight_of s = record { number = s.ticket; client = s.client; block = s.block; flight = s.ticket; owner = s.client }
 
--- the ticket of a block in flight, the job of one that waits to be written, nothing of one that is done
+-- the ticket of a block in flight, the job of one that landed until it ends
 abbrev pub flights_at : Home → Slot → List Mark
-flights_at h s = if s.landed then (if s.done then [] else mark_in JobKind h (flight_of s) ∷ []) else mark_in TicketKind h (flight_of s) ∷ []
+flights_at h s = if s.landed then (if s.job then mark_in JobKind h (flight_of s) ∷ [] else []) else mark_in TicketKind h (flight_of s) ∷ []
 
-abbrev pub out_of : Home → List Held → List Held → List Held → List Slot → List Mark
-out_of h stays readings pins slots = map (mark_in StayKind h) stays ++ map (mark_in ReadingKind h) readings ++ map (mark_in PinKind h) pins ++ flat_map (flights_at h) slots
+-- what is kept of a loan
+abbrev pub loan_of : ℕ → Held
+loan_of number = record { number = number; client = 0; block = 0; flight = 0; owner = 0 }
+
+-- the loan of this number, where one is out
+abbrev pub loan_at : Home → Option ℕ → List Mark
+loan_at h None = []
+loan_at h (Some number) = mark_in LoanKind h (loan_of number) ∷ []
+
+abbrev pub out_of : Home → (stays readings pins disks : List Held) → Option ℕ → List Slot → List Mark
+out_of h stays readings pins disks loan slots = map (mark_in StayKind h) stays ++ map (mark_in ReadingKind h) readings ++ map (mark_in PinKind h) pins ++ map (mark_in DiskKind h) disks ++ loan_at h loan ++ flat_map (flights_at h) slots

@@ -1,5 +1,5 @@
 -- The slots of a file's blocks.
-use Rattle.std.specs.Prelude.{◌≡◌, ℕ, ◌+◌, ◌-◌, true, false, ◌==◌, if◌then◌else◌, List, [], ◌∷◌, Option, Some, None, sum_by}
+use Rattle.std.specs.Prelude.{◌≡◌, ℕ, ◌+◌, ◌-◌, ◌||◌, Bool, not, true, false, ◌==◌, if◌then◌else◌, List, [], ◌∷◌, Option, Some, None, sum_by}
 use Rattle.pfc_log.specs.Views.{Place, Flying, Here}
 use Rattle.pfc_core.specs.declared.slot.Slot.{Slot}
 
@@ -34,27 +34,35 @@ pub record Changes (b : ℕ) (was is : Option Slot) (old new : ShelfView) : Type
 
 -- where the slot's block is
 abbrev pub place_of : Slot → Place
-place_of s = if s.landed then Here s.ticket s.done else Flying s.ticket s.client
+place_of s = if s.landed then Here s.ticket (s.written || not s.job) else Flying s.ticket s.client
 
 abbrev pub ticket_in : Option Slot → Option ℕ
 ticket_in None = None
 ticket_in (Some s) = Some s.ticket
 
--- how many entries a slot may still cause
+-- the job isn't out
+abbrev pub is_idle : Slot → Bool
+is_idle s = not s.job
+
+-- How many entries a slot may still cause: the block lands, is written, is dropped, and leaves.
 abbrev pub room_of : Slot → ℕ
-room_of s = if s.landed then (if s.done then 1 else 2) else 3
+room_of s = if s.landed then (if s.written then 0 else 1) + (if s.job then 1 else 0) + 1 else 4
 
 -- a block that goes into flight, with the pin of who began it
 abbrev pub fresh_slot : (b t n : ℕ) → Slot
-fresh_slot b t n = record { block = b; ticket = t; client = n; landed = false; done = false; pins = 1 }
+fresh_slot b t n = record { block = b; ticket = t; client = n; landed = false; written = false; job = false; pins = 1 }
 
 -- it landed
 abbrev pub landed_slot : Slot → Slot
-landed_slot s = record s { landed = true; done = false }
+landed_slot s = record s { landed = true; written = false; job = true }
+
+-- the block was written
+abbrev pub written_slot : Slot → Slot
+written_slot s = record s { written = true }
 
 -- its job ended
-abbrev pub done_slot : Slot → Slot
-done_slot s = record s { done = true }
+abbrev pub ended_slot : Slot → Slot
+ended_slot s = record s { job = false }
 
 -- one pin more
 abbrev pub bumped : Slot → Slot

@@ -32,7 +32,7 @@ pub record IsTied (es : List Entry) (slots : ℕ → Option Slot) (pins : List H
   pub at : (i t : ℕ) → 0 < on i t pins → (ticket_in (slots i) ≡ Some t) ⊎ (0 < times (is_failed t) es)
   pub owed : (i n t : ℕ) → times (is_landed t) es ≡ 0 → times (is_lost i n t) es + waits i n t pins ≤ times (is_asked i n t) es
 
--- nothing that is done stays without a pin
+-- a block whose job has ended doesn't stay without a pin
 abbrev pub IsAlive : Option Slot → Type 0
 IsAlive None = Unit {0}
-IsAlive (Some s) = s.landed ≡ true → s.done ≡ true → 0 < s.pins
+IsAlive (Some s) = s.landed ≡ true → s.job ≡ false → 0 < s.pins

@@ -1,41 +1,49 @@
 // The state of one opening of one file.
 ghost use Rattle.std.specs.Prelude.{◌≡◌, ◌+◌, ◌*◌, ◌<◌, ◌≤◌, ◌↔◌, ◌^◌, ℕ, [], length, false, IsTrue, IfOk, OnOk, OnErr, IfErr, IfSome, sum_by, ◌==◌, ◌&&◌};
-ghost use Rattle.pfc_base.specs.Block.{count_of};
 ghost use Rattle.pfc_base.specs.BlockSet.{is_member};
-ghost use Rattle.pfc_log.specs.Views.{stored};
+ghost use Rattle.pfc_log.specs.Views.{stored, durable, bound};
 ghost use Rattle.pfc_log.specs.Lawful.{Lawful, IsComplete};
-ghost use Rattle.pfc_core.specs.View.{CoreView};
+ghost use Rattle.pfc_core.specs.View.{CoreView, why_of};
+ghost use Rattle.pfc_core.specs.Lending.{loans_out};
 ghost use Rattle.pfc_core.specs.Calls.{foreign, Attaches, Detaches, Begins, Strays};
-ghost use Rattle.pfc_core.specs.New.{IsNew};
 
+mod disk;
 mod flights;
+mod jobs;
+mod loans;
+mod make;
 mod pins;
 mod reads;
 
 use crate::held::Tokens;
+use crate::sets::Sets;
 use crate::shelf::Shelf;
 use crate::token::{Reading, Stay, Strayed, is_of, stranger, tag_of};
-use pfc_base::{BlockSet, Memory, block_count};
-use pfc_log::{Entry, FileLog, Start};
+use pfc_base::{BlockSet, Memory};
+use pfc_log::{Entry, FileLog, Start, Uncached};
 use pfc_world::{Known, World};
-use std::alloc::Global;
 use std::marker::Model;
 
-/// The core of one opening of one file: its number, its file with the block size, its log, and what it gave out.
+/// The core of one opening of one file: its number, its file with the block size, its log, what it gave out, and which blocks
+/// are on disk. The file's store is kept beside it.
 #[derive(Drop)]
 pub struct FileCore<W: World> {
     instance: u64,
     log: FileLog,
-    stored: BlockSet,
+    sets: Sets,
     shelf: Shelf<W>,
     stays: Tokens,
     readings: Tokens,
     pins: Tokens,
+    disks: Tokens,
+    loan: Option<u64>,
+    lent: u64,
     begun: u64,
 }
 
 impl<W: World> Model for FileCore<W> {
-    ghost use Rattle.pfc_core.specs.View.{CoreView};
+    ghost use Rattle.pfc_core.specs.View.{CoreView, why_of};
+    ghost use Rattle.pfc_core.specs.Lending.{loans_out};
 
     ghost Value = { CoreView };
 
@@ -55,15 +63,26 @@ pub struct Retired {
     pub log: FileLog,
 }
 
-/// How many entries the log must have room for, at most.
-fn owed(a: usize, b: usize, c: usize, slots: usize) -> Option<u64>
-    ensures sum { IfSome result (λ n. n ≡ a + b + c + 3 * slots) }
+/// How many entries the log must have room for, at most: those of all tokens that are out and of all slots, and `frozen`.
+fn owed(tokens: usize, others: usize, slots: usize) -> Option<u64>
+    ensures sum { IfSome result (λ n. n ≡ tokens + others + 4 * slots + 1) }
     ensures small { IfSome result (λ n. n < 2 ^ 62) }
 {
-    if a > MOST_TOKENS || b > MOST_TOKENS || c > MOST_TOKENS || slots > MOST_TOKENS {
+    if tokens > MOST_TOKENS || others > MOST_TOKENS || slots > MOST_TOKENS {
         return None;
     }
-    Some((a + b + c + 3 * slots) as u64)
+    Some((tokens + others + 4 * slots + 1) as u64)
+}
+
+/// The sum of three numbers of tokens. One that is past all memory is refused.
+fn sum_of(a: usize, b: usize, c: usize) -> Result<usize, Memory>
+    ensures sum { IfOk result (λ n. n ≡ a + b + c) }
+    ensures small { IfOk result (λ n. n < 2 ^ 61) }
+{
+    if a > MOST_TOKENS || b > MOST_TOKENS || c > MOST_TOKENS {
+        return Err(Memory);
+    }
+    Ok(a + b + c)
 }
 
 fn all_zero(a: usize, b: usize, c: usize, d: usize) -> bool
@@ -76,8 +95,7 @@ fn all_zero(a: usize, b: usize, c: usize, d: usize) -> bool
 fn make_room<W: World>(
     log: &mut FileLog,
     tokens: &mut Tokens,
-    others: &Tokens,
-    rest: &Tokens,
+    others: usize,
     shelf: &Shelf<W>,
 ) -> Result<(), Memory>
     ensures first { log.new.first ≡ log.old.first }
@@ -86,43 +104,16 @@ fn make_room<W: World>(
     ensures kept { log.old.room ≤ log.new.room }
     ensures token { OnOk result (0 < tokens.new.room) }
     ensures few { OnOk result (length tokens.old.list < 2 ^ 63) }
-    ensures room { OnOk result (length tokens.old.list + length others.now.list + length rest.now.list + 3 * length shelf.now.slots + 5 ≤ log.new.room) }
+    ensures room { OnOk result (length tokens.old.list + others + 4 * length shelf.now.slots + 7 ≤ log.new.room) }
 {
-    let Some(owed) = owed(tokens.len(), others.len(), rest.len(), shelf.len()) else {
+    let Some(owed) = owed(tokens.len(), others, shelf.len()) else {
         return Err(Memory);
     };
-    log.reserve(owed + 5)?;
+    log.reserve(owed + 6)?;
     tokens.reserve()
 }
 
 impl<W: World> FileCore<W> {
-    /// A core that nobody uses yet, with an empty log. No block of the file is stored.
-    pub fn new(
-        alloc: Global,
-        instance: u64,
-        known: Known<W>,
-        block_size: u64,
-    ) -> Result<FileCore<W>, Memory>
-        requires some { 0 < block_size }
-        requires most { block_size ≤ 16777216 }
-        requires blocks { count_of known.size block_size ≤ 16777216 }
-        ensures { IfOk result (λ core. IsNew instance known.path known.size block_size core) }
-    {
-        let count = block_count(known.size(), block_size) as u32;
-        let stored = BlockSet::new(alloc, count)?;
-        let start = Start::Stored(BlockSet::new(alloc, count)?);
-        Ok(FileCore {
-            instance,
-            log: FileLog::new(alloc, start),
-            stored,
-            shelf: Shelf::new(alloc, known, block_size),
-            stays: Tokens::new(alloc),
-            readings: Tokens::new(alloc),
-            pins: Tokens::new(alloc),
-            begun: 0,
-        })
-    }
-
     /// The log so far.
     pub fn log(&self) -> &FileLog
         ensures first { result.now.first ≡ self.now.first }
@@ -132,12 +123,23 @@ impl<W: World> FileCore<W> {
         &self.log
     }
 
-    /// The blocks that can be read from disk.
+    /// The blocks that can be read from disk; none where the file isn't cached.
     pub fn stored(&self) -> &BlockSet
+        ensures set { result.now ≡ self.now.stored }
         ensures members { (i : ℕ) → is_member result.now i ≡ stored self.now.first i self.now.entries }
-        ensures bound { length result.now ≡ count_of self.now.size self.now.block_size }
+        ensures bound { length result.now ≡ bound self.now.first }
     {
-        &self.stored
+        self.sets.stored()
+    }
+
+    /// Why the file isn't cached, if it isn't.
+    pub fn uncached(&self) -> Option<Uncached>
+        ensures { result ≡ why_of self.now.first }
+    {
+        match self.log.start() {
+            Start::Stored(_) => None,
+            Start::Uncached(why) => Some(*why),
+        }
     }
 
     pub fn known(&self) -> &Known<W>
@@ -166,13 +168,8 @@ impl<W: World> FileCore<W> {
         ensures memory { OnErr result (self.new ≡ self.old) }
         ensures ok { IfOk result (λ stay. Attaches self.old n stay self.new) }
     {
-        make_room(
-            &mut self.log,
-            &mut self.stays,
-            &self.readings,
-            &self.pins,
-            &self.shelf,
-        )?;
+        let others = sum_of(self.readings.len(), self.pins.len(), self.disks.len())?;
+        make_room(&mut self.log, &mut self.stays, others, &self.shelf)?;
         let held = self.stays.add(n, 0, 0, 0);
         self.log.push(Entry::Opened { client: n });
         Ok(Stay {
@@ -204,13 +201,8 @@ impl<W: World> FileCore<W> {
         ensures memory { OnErr result (self.new ≡ self.old) }
         ensures ok { IfOk result (λ reading. Begins self.old n reading self.new) }
     {
-        make_room(
-            &mut self.log,
-            &mut self.readings,
-            &self.stays,
-            &self.pins,
-            &self.shelf,
-        )?;
+        let others = sum_of(self.stays.len(), self.pins.len(), self.disks.len())?;
+        make_room(&mut self.log, &mut self.readings, others, &self.shelf)?;
         let held = self.readings.add(n, 0, 0, 0);
         Ok(Reading {
             tag: tag_of(self.instance, &self.shelf, held),
@@ -222,11 +214,17 @@ impl<W: World> FileCore<W> {
         ensures exact { IsTrue result ↔ (self.now.out ≡ []) }
         ensures complete { IsTrue result → IsComplete self.now.first self.now.entries }
     {
+        if self.loan.is_some() {
+            return false;
+        }
+        if self.shelf.len() != 0 {
+            return false;
+        }
         all_zero(
             self.stays.len(),
             self.readings.len(),
             self.pins.len(),
-            self.shelf.len(),
+            self.disks.len(),
         )
     }
 
@@ -252,6 +250,16 @@ impl<W: World> FileCore<W> {
     /// Hands out what the type keeps: the log is complete once no token is out.
     pub fn ends(&self)
         ensures { self.now.out ≡ [] → IsComplete self.now.first self.now.entries }
+    {
+        let _all = self.stays.len();
+    }
+
+    /// Hands out what the type keeps: one loan at most is out, and the sets are what the log says.
+    pub fn keeps(&self)
+        ensures loan { loans_out self.now.out ≤ 1 }
+        ensures stored { (i : ℕ) → is_member self.now.stored i ≡ stored self.now.first i self.now.entries }
+        ensures durable { (i : ℕ) → is_member self.now.durable i ≡ durable self.now.first i self.now.entries }
+        ensures bounds { (length self.now.stored ≡ bound self.now.first) × (length self.now.durable ≡ bound self.now.first) }
     {
         let _all = self.stays.len();
     }

@@ -3,7 +3,7 @@ ghost use Rattle.pfc_base.specs.Block.{IsPartOf};
 ghost use Rattle.pfc_core.specs.Leave.{leave_of};
 
 use crate::tag::Tag;
-use crate::token::Pin;
+use crate::token::{OnDisk, Pin};
 use pfc_base::Part;
 use pfc_world::{Known, World};
 use std::marker::Model;
@@ -84,6 +84,41 @@ pub(crate) fn leave_for<W: World>(pin: Pin<W>, part: Part) -> Leave<W>
         known,
         block_size,
         client: held.client,
+        part,
+    }
+}
+
+/// A leave in the place of a token for a block on disk.
+pub(crate) fn leave_for_disk<W: World>(disk: OnDisk<W>, part: Part) -> Leave<W>
+    requires { IsPartOf disk.size disk.block_size part }
+    ensures { result ≡ leave_of disk part }
+{
+    let OnDisk { tag } = disk;
+    let Tag {
+        known,
+        block_size,
+        held,
+        ..
+    } = tag;
+    Leave {
+        known,
+        block_size,
+        client: held.client,
+        part,
+    }
+}
+
+/// A client's leave for a part of a file.
+pub(crate) fn leave_at<W: World>(n: u32, known: Known<W>, block_size: u64, part: Part) -> Leave<W>
+    requires some { 0 < block_size }
+    requires most { block_size ≤ 16777216 }
+    requires part { IsPartOf known.size block_size part }
+    ensures { result ≡ record { client = n; path = known.path; size = known.size; block_size = block_size; part = part } }
+{
+    Leave {
+        known,
+        block_size,
+        client: n,
         part,
     }
 }

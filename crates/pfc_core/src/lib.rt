@@ -5,7 +5,9 @@ mod file;
 mod held;
 mod leave;
 mod line;
+mod loan;
 mod look;
+mod sets;
 mod shelf;
 mod slot;
 mod tag;
@@ -14,8 +16,9 @@ mod token;
 pub use file::{FileCore, Retired};
 pub use leave::Leave;
 pub use line::{Flight, Line};
+pub use loan::{Did, Loan, NoLoan};
 pub use look::Look;
-pub use token::{Decision, Job, Pin, Reading, Stay, Strayed, Ticket, Twin};
+pub use token::{Decision, Job, OnDisk, Pin, Reading, Stay, Strayed, Ticket, Twin};
 
 #[cfg(test)]
 mod tests;

@@ -181,10 +181,10 @@ impl<W: World> Shelf<W> {
         None
     }
 
-    /// The slot whose job is kept so, and hasn't ended.
+    /// The slot whose job is kept so, and is out.
     pub fn find_waiting(&self, held: Held) -> Option<Slot>
-        ensures some { IfSome result (λ s. (slot_of held.block self.now.slots ≡ Some s) × (s.landed ≡ true) × (s.done ≡ false) × (flight_of s ≡ held)) }
-        ensures none { IfNone result ((x : Slot) → slot_of held.block self.now.slots ≡ Some x → x.landed ≡ true → x.done ≡ false → flight_of x ≡ held → ⊥) }
+        ensures some { IfSome result (λ s. (slot_of held.block self.now.slots ≡ Some s) × (s.landed ≡ true) × (s.job ≡ true) × (flight_of s ≡ held)) }
+        ensures none { IfNone result ((x : Slot) → slot_of held.block self.now.slots ≡ Some x → x.landed ≡ true → x.job ≡ true → flight_of x ≡ held → ⊥) }
         ensures single { IsSingle self.now.slots }
     {
         let Some(slot) = self.find(held.block) else {
@@ -193,7 +193,7 @@ impl<W: World> Shelf<W> {
         if !slot.landed {
             return None;
         }
-        if slot.done {
+        if !slot.job {
             return None;
         }
         if is_same(held, slot.flight()) {

@@ -1,18 +1,19 @@
 ghost use Rattle.std.specs.Prelude.{◌≡◌, ◌==◌, ◌&&◌, ◌+◌, ◌<◌, ◌^◌};
-ghost use Rattle.pfc_core.specs.Slots.{fresh_slot, landed_slot, done_slot, bumped, lowered};
+ghost use Rattle.pfc_core.specs.Slots.{fresh_slot, landed_slot, written_slot, ended_slot, is_idle, bumped, lowered};
 ghost use Rattle.pfc_core.specs.Out.{flight_of};
 
 use crate::held::Held;
 
-/// What is kept of a block that is in flight or in memory: its flight, who began it, whether it landed, whether its job
-/// has ended since, and how many pins wait for it or hold it.
+/// What is kept of a block that is in flight or in memory: its flight, who began it, whether it landed, whether it was
+/// written since, whether its job is out, and how many pins wait for it or hold it.
 #[derive(Clone, Copy, Debug, PartialEq, Eq)]
 pub(crate) struct Slot {
     pub block: u32,
     pub ticket: u64,
     pub client: u32,
     pub landed: bool,
-    pub done: bool,
+    pub written: bool,
+    pub job: bool,
     pub pins: u64,
 }
 
@@ -26,7 +27,8 @@ impl Slot {
             ticket,
             client,
             landed: false,
-            done: false,
+            written: false,
+            job: false,
             pins: 1,
         }
     }
@@ -36,15 +38,26 @@ impl Slot {
     {
         Slot {
             landed: true,
-            done: false,
+            written: false,
+            job: true,
             ..self
         }
     }
 
-    pub fn done(self) -> Slot
-        ensures { result ≡ done_slot self }
+    pub fn written(self) -> Slot
+        ensures { result ≡ written_slot self }
     {
-        Slot { done: true, ..self }
+        Slot {
+            written: true,
+            ..self
+        }
+    }
+
+    /// The block's job has ended.
+    pub fn ended(self) -> Slot
+        ensures { result ≡ ended_slot self }
+    {
+        Slot { job: false, ..self }
     }
 
     pub fn pinned(self) -> Slot
@@ -82,8 +95,8 @@ impl Slot {
 
     /// Whether the block leaves memory with one pin.
     pub fn is_last(self) -> bool
-        ensures { result ≡ (self.landed && self.done && self.pins == 1) }
+        ensures { result ≡ (self.landed && is_idle self && self.pins == 1) }
     {
-        self.landed && self.done && self.pins == 1
+        self.landed && !self.job && self.pins == 1
     }
 }

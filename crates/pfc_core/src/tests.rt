@@ -1,11 +1,13 @@
 ghost use Rattle.std.specs.Prelude.{◌≡◌, IfOk, IfSome};
 ghost use Rattle.pfc_base.specs.Block.{IsPartOf};
 
+mod disk;
+
 use crate::{Decision, FileCore, Flight, Job, Line, Look, Pin, Stay, Strayed, Ticket};
-use pfc_base::{Part, Path, block_count, block_len};
+use pfc_base::{BlockSet, Part, Path, block_count, block_len};
 use pfc_log::{DropCause, Fell, Mark, Served, Stranger, push_log};
 use pfc_memory::{MemoryHost, MemoryLink, RowWorld};
-use pfc_world::Host;
+use pfc_world::{Host, Known};
 use std::alloc::Global;
 use std::test::Fail;
 
@@ -25,14 +27,21 @@ fn line_of(alloc: Global, number: u32, fails: &[u64]) -> Result<RowLine, Fail> {
     Ok(Line::new(host.link(alloc, number)?))
 }
 
-/// A core of the file `/w` of 4096 bytes, for which the line is asked once.
-fn core_of(alloc: Global, instance: u64, line: &mut RowLine) -> Result<Core, Fail> {
+/// The file `/w` of 4096 bytes, for which the line is asked once.
+fn known_of(line: &mut RowLine) -> Result<Known<RowWorld>, Fail> {
     let path = Path::read(b"/w")?;
-    let known = line.stat(&path)?.ok_or("no file")?;
-    if block_count(known.size(), BLOCK_SIZE) > 16777216 {
+    Ok(line.stat(&path)?.ok_or("no file")?)
+}
+
+/// A core of that file, of which no block is on disk.
+fn core_of(alloc: Global, instance: u64, line: &mut RowLine) -> Result<Core, Fail> {
+    let known = known_of(line)?;
+    let count = block_count(known.size(), BLOCK_SIZE);
+    if count > 16777216 {
         return Err(Fail::new("too many blocks"));
     }
-    Ok(FileCore::new(alloc, instance, known, BLOCK_SIZE)?)
+    let start = BlockSet::new(alloc, count as u32)?;
+    Ok(FileCore::new(alloc, instance, known, BLOCK_SIZE, start)?)
 }
 
 /// A core that two clients have opened, and a line.
@@ -86,6 +95,14 @@ fn begin(core: &mut Core, n: u32) -> Result<(Ticket<RowWorld>, Pin<RowWorld>, Pa
         Decision::Fetch(ticket, pin) => Ok((ticket, pin, part)),
         Decision::Joined(_pin) => Err(Fail::new("a flight is out")),
         Decision::Resident(_pin) => Err(Fail::new("the block is there")),
+        Decision::Stored(disk) => {
+            disk.discard();
+            Err(Fail::new("the block is on disk"))
+        }
+        Decision::Direct(leave) => {
+            leave.discard();
+            Err(Fail::new("the file isn't cached"))
+        }
     }
 }
 
@@ -99,6 +116,14 @@ fn join(core: &mut Core, n: u32) -> Option<(Pin<RowWorld>, Part)>
         Decision::Resident(_pin) => None,
         Decision::Fetch(ticket, _pin) => {
             ticket.discard();
+            None
+        }
+        Decision::Stored(disk) => {
+            disk.discard();
+            None
+        }
+        Decision::Direct(leave) => {
+            leave.discard();
             None
         }
     }
@@ -214,13 +239,17 @@ fn read_lost(
 
 /// Ends a client's read.
 fn serve(
+    alloc: Global,
     core: &mut Core,
     pins: &mut Vec<Pin<RowWorld>>,
     n: u32,
     served: Served,
 ) -> Result<(), Fail> {
     let reading = core.begin_read(n)?;
-    match core.finish(reading, pins, Some(served)) {
+    let mut disks = Vec::new(alloc);
+    let ended = core.finish(reading, pins, &mut disks, Some(served));
+    disks.destroy_empty();
+    match ended {
         Ok(()) => Ok(()),
         Err(Strayed { token, why: _ }) => {
             token.discard();
@@ -284,6 +313,7 @@ fn read(alloc: Global, core: &mut Core, waiting: Waiting, n: u32) -> Result<[u8;
     let mut pins = Vec::new(alloc);
     pins.push(pin)?;
     serve(
+        alloc,
         core,
         &mut pins,
         n,
@@ -322,6 +352,7 @@ fn one_reads(
     let answer = answer_of(core, first.0, first.1)?;
     read_lost(alloc, core, second, &mut bytes)?;
     serve(
+        alloc,
         core,
         &mut Vec::new(alloc),
         2,

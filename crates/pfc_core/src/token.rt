@@ -8,6 +8,7 @@ ghost use Rattle.pfc_core.specs.Homes.{home_of};
 ghost use Rattle.pfc_core.specs.Blocks.{block_view, block_at};
 
 use crate::held::Held;
+use crate::leave::Leave;
 use crate::shelf::Shelf;
 use crate::tag::Tag;
 use pfc_base::Memory;
@@ -223,10 +224,35 @@ impl<W: World> Job<W> {
     }
 }
 
-/// How a part of a block is read: from memory, or once a flight landed that is out already, or once a new one did.
+/// The right to read parts of one block from disk. It must be spent: the core takes it back by `end_disk`, or by
+/// `leave_broken` where the disk failed.
+pub struct OnDisk<W: World> {
+    pub(crate) tag: Tag<W>,
+}
+
+impl<W: World> Model for OnDisk<W> {
+    ghost use Rattle.pfc_core.specs.Marks.{Mark, DiskKind};
+    ghost use Rattle.pfc_core.specs.Tags.{mark_of};
+
+    ghost Value = { Mark };
+
+    ghost view = { λ t. mark_of DiskKind t.tag };
+}
+
+impl<W: World> OnDisk<W> {
+    pub fn discard(self) {
+        let OnDisk { tag } = self;
+        drop(tag);
+    }
+}
+
+/// How a part of a block is read: straight from the origin, since the file isn't cached; from memory; once a flight landed
+/// that is out already; from disk; or once a new flight landed.
 pub enum Decision<W: World> {
+    Direct(Leave<W>),
     Resident(Pin<W>),
     Joined(Pin<W>),
+    Stored(OnDisk<W>),
     Fetch(Ticket<W>, Pin<W>),
 }
 

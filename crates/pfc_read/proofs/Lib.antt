@@ -1,4 +1,5 @@
 mod Decided
+mod Turned
 mod Asked
 mod Weights
 mod Hands

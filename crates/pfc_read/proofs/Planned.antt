@@ -1,9 +1,8 @@
 -- What a plan begins with.
-use Rattle.std.proofs.Common.{◌≡◌, ◌+◌, ◌-◌, ◌*◌, ◌<◌, ◌≤◌, ◌⊎◌, ℕ, Bool, List, [], ◌∷◌, ◌++◌, length, take, drop, map, min, length-append, length-drop, reverse, refl, sym, ap, ◌∙◌, arith, subst, Option, Some, None, inl, inr, eq-eqb}
+use Rattle.std.proofs.Common.{◌≡◌, ◌+◌, ◌-◌, ◌*◌, ◌<◌, ◌≤◌, ◌⊎◌, ℕ, Bool, List, [], ◌∷◌, ◌++◌, length, take, drop, map, min, length-append, length-drop, refl, sym, ap, ◌∙◌, arith, subst, Option, Some, None, inl, inr, eq-eqb}
 use Rattle.std.specs.Prelude.{sum_by, All}
-use Rattle.std.proofs.lemmas.List.{nil_from_length, length-reverse, get_or-reverse, length-map}
+use Rattle.std.proofs.lemmas.List.{nil_from_length, length-map}
 use Rattle.std.proofs.lemmas.List.Elements.{All-nil, All-head, All-tail, All-weaker}
-use Rattle.std.proofs.lemmas.List.Sorted.{IsPermutation-reverse, sum_by-IsPermutation}
 use Rattle.std.proofs.lemmas.List.Sums.{sum_by-append, sum_by-take-le, sum_by-cons}
 use Rattle.std.proofs.Math.Seq.{take-length}
 use Rattle.pfc_base.specs.Block.{IsPartOf}
@@ -14,16 +13,20 @@ use Rattle.pfc_log.specs.declared.entry.Fell.TheVariants.{Fault, Memory}
 use Rattle.pfc_world.specs.Files.{Files, HasSize}
 use Rattle.pfc_span.specs.Tiling.{part_len, parts_of, Tiles, TileEach}
 use Rattle.pfc_core.specs.Calls.{Begins, IsOf}
-use Rattle.pfc_core.specs.Marks.{Kind, TicketKind, PinKind, Mark}
+use Rattle.pfc_core.specs.Leave.{LeaveView}
+use Rattle.pfc_core.specs.Marks.{Kind, TicketKind, PinKind, DiskKind, Mark}
 use Rattle.pfc_core.specs.View.{CoreView}
 use Rattle.pfc_read.specs.declared.segment.Source.TheVariants as source
 use Rattle.pfc_read.specs.declared.segment.Segment.{Segment}
 use Rattle.pfc_read.specs.declared.segment.Hand.TheVariants as hand
+use Rattle.pfc_read.specs.declared.segment.Found.{Found}
+use Rattle.pfc_read.specs.declared.segment.Owed.{Owed}
 use Rattle.pfc_read.specs.declared.segment.Pending.{Pending}
-use Rattle.pfc_read.specs.Segments.{len_in, covers, len_from, in_pending, pin_in}
-use Rattle.pfc_read.specs.Draft.{IsAsked, AreAsked}
+use Rattle.pfc_read.specs.declared.draft.Draft.{Draft}
+use Rattle.pfc_read.specs.Segments.{IsPlaced, len_in, covers, len_from, Waiting, weigh, pin_in, disk_in}
+use Rattle.pfc_read.specs.Draft.{IsAsked, IsStored, IsSent, waiting_in, AreAsked}
 use Rattle.pfc_read.specs.Steps.{IsTokenOf}
-use Rattle.pfc_read.specs.Kept.{AreOwn, AreCounted, IsSound, IsStaged, IsFit}
+use Rattle.pfc_read.specs.Kept.{AreOwn, AreCounted, IsSound, IsStaged, IsFit, IsFound, IsOwed}
 
 -- with one piece every part is its own
 parts_of-all : (placed : List (ℕ × Part)) → All (λ x. x.0 < 1) placed → parts_of 0 placed ≡ map (λ x. x.1) placed
@@ -34,15 +37,6 @@ parts_of-all (x ∷ xs) below =
 
 pub tiles-one : (size k : ℕ) (piece : Piece) (placed : List (ℕ × Part)) → TileEach size k (piece ∷ []) placed → Tiles size k piece (map (λ x. x.1) placed)
 tiles-one size k piece placed is = subst (Tiles size k piece) (parts_of-all placed is.places) (is.tile 0 piece refl)
-
-All-reverse : {X : Type 0} (P : X → Type 0) (xs : List X) → All P xs → All P (reverse xs)
-All-reverse P xs all k d h =
-    let long : length (reverse xs) ≡ length xs = length-reverse xs in
-    let low : k < length xs = omega (arith, h, long) in
-    subst P (sym (get_or-reverse xs k d low)) (all (length xs - 1 - k) d (omega (arith, low)))
-
-pub sum_by-reverse : {X : Type 0} (f : X → ℕ) (xs : List X) → sum_by f (reverse xs) ≡ sum_by f xs
-sum_by-reverse f xs = sum_by-IsPermutation f xs (reverse xs) (IsPermutation-reverse xs)
 
 -- no part is empty
 number-le-lens : (size k : ℕ) (parts : List Part) → All (IsPartOf size k) parts → length parts ≤ sum_by part_len parts
@@ -81,18 +75,34 @@ token-of v n r kind m home is = record {
   client_is = is.client_is ∙ sym home.client_is;
 }
 
-fit-of : {W : Type 0} (v : CoreView) (n off total : ℕ) (r : Mark) (p : Pending W) → IsHome r n v → IsAsked v n off total p → IsFit r off total p
-fit-of v n off total r p home is = record {
-  pin_for = record { token = token-of v n r PinKind p.pin home is.pin_of; block_is = is.block_is };
-  placed = record {
-    part_of = subst (λ s. IsPartOf s r.block_size p.segment.part) (sym home.size_is) (subst (λ k. IsPartOf v.size k p.segment.part) (sym home.block_size_is) is.placed.part_of);
-    place = ap (λ k. p.segment.part.block * k + p.segment.part.from) home.block_size_is ∙ is.placed.place;
-    within = is.placed.within;
-  };
+placed-of : (v : CoreView) (n off total : ℕ) (r : Mark) (s : Segment) → IsHome r n v → IsPlaced v.size v.block_size off total s → IsPlaced r.size r.block_size off total s
+placed-of v n off total r s home is = record {
+  part_of = subst (λ z. IsPartOf z r.block_size s.part) (sym home.size_is) (subst (λ k. IsPartOf v.size k s.part) (sym home.block_size_is) is.part_of);
+  place = ap (λ k. s.part.block * k + s.part.from) home.block_size_is ∙ is.place;
+  within = is.within;
 }
 
--- a plan, but for the order of its lists
-pub record IsPlanned {W : Type 0} (told : Bool) (files : Files) (old mid : CoreView) (n : ℕ) (piece : Piece) (r : Mark) (parts : List Part) (len number : ℕ) (tickets : List Mark) (pendings : List (Pending W)) (hits waits : ℕ) (met : Option Fell) (new : CoreView) : Type 0 where
+fit-of : {W : Type 0} (v : CoreView) (n off total : ℕ) (r : Mark) (p : Pending W) → IsHome r n v → IsAsked v n off total p → IsFit r off total p
+fit-of v n off total r p home is = record { pin_for = record { token = token-of v n r PinKind p.pin home is.pin_of; block_is = is.block_is }; placed = placed-of v n off total r p.segment home is.placed }
+
+found-of : {W : Type 0} (v : CoreView) (n off total : ℕ) (r : Mark) (x : Found W) → IsHome r n v → IsStored v n off total x → IsFound r off total x
+found-of v n off total r x home is = record { disk_for = record { token = token-of v n r DiskKind x.disk home is.disk_of; block_is = is.block_is }; placed = placed-of v n off total r x.segment home is.placed }
+
+owed-of : {W : Type 0} (v : CoreView) (n off total : ℕ) (r : Mark) (o : Owed W) → IsHome r n v → IsSent v n off total o → IsOwed r off total o
+owed-of v n off total r o home is = record {
+  leave_of = record {
+    client_is = ap (λ (l : LeaveView). l.client) is.leave_is ∙ sym home.client_is;
+    path_is = ap (λ (l : LeaveView). l.path) is.leave_is ∙ sym home.path_is;
+    size_is = ap (λ (l : LeaveView). l.size) is.leave_is ∙ sym home.size_is;
+    block_size_is = ap (λ (l : LeaveView). l.block_size) is.leave_is ∙ sym home.block_size_is;
+  };
+  part_is = ap (λ (l : LeaveView). l.part) is.leave_is;
+  placed = placed-of v n off total r o.segment home is.placed;
+  source_is = is.source_is;
+}
+
+-- a plan, before its read is made
+pub record IsPlanned {W : Type 0} (told : Bool) (files : Files) (old mid : CoreView) (n : ℕ) (piece : Piece) (r : Mark) (parts : List Part) (len number : ℕ) (draft : Draft W) (met : Option Fell) (new : CoreView) : Type 0 where
   pub short : piece.len ≤ 16777216
   pub least : 4096 ≤ old.block_size
   pub most : old.block_size ≤ 16777216
@@ -101,53 +111,51 @@ pub record IsPlanned {W : Type 0} (told : Bool) (files : Files) (old mid : CoreV
   pub tiles : Tiles old.size old.block_size piece parts
   pub long : len ≡ min piece.len (old.size - piece.off)
   pub within : number ≤ length parts
-  pub asked : AreAsked mid n parts number tickets pendings hits waits new
+  pub asked : AreAsked mid n parts number draft new
   pub all : met ≡ None → number ≡ length parts
   pub met_is : (met ≡ None) ⊎ (met ≡ Some Memory)
 
-pub planned-own : {W : Type 0} (told : Bool) (files : Files) (old mid : CoreView) (n : ℕ) (piece : Piece) (r : Mark) (parts : List Part) (len number : ℕ) (tickets : List Mark) (pendings : List (Pending W)) (hits waits : ℕ) (met : Option Fell) (new : CoreView) →
-    IsPlanned told files old mid n piece r parts len number tickets pendings hits waits met new → AreOwn r piece.off len (reverse tickets) (reverse pendings) [] None hand.Nothing
-planned-own {W = W} told files old mid n piece r parts len number tickets pendings hits waits met new is =
+pub planned-own : {W : Type 0} (told : Bool) (files : Files) (old mid : CoreView) (n : ℕ) (piece : Piece) (r : Mark) (parts : List Part) (len number : ℕ) (draft : Draft W) (met : Option Fell) (new : CoreView) →
+    IsPlanned told files old mid n piece r parts len number draft met new → AreOwn r piece.off len draft.tickets.items [] (waiting_in draft) hand.Nothing
+planned-own {W = W} told files old mid n piece r parts len number draft met new is =
     let home = home-of old mid n r is.begins in
-    let total : sum_by part_len parts ≡ len = is.tiles.whole ∙ sym is.long in
-    let row = subst (λ (v : CoreView). Rattle.pfc_span.specs.Tiling.AreInRow v.block_size piece.off parts) (sym is.begins.rest) is.tiles.row in
-    let P : Pending W → Type 0 = IsFit r piece.off len in
-    let fits : All P pendings = All-weaker (IsAsked mid n piece.off (sum_by part_len parts)) P (λ p h. subst (λ t. IsFit r piece.off t p) total (fit-of mid n piece.off (sum_by part_len parts) r p home h)) pendings (is.asked.pendings_are piece.off row) in
+    let off = piece.off in
+    let all : ℕ = sum_by part_len parts in
+    let total : all ≡ len = is.tiles.whole ∙ sym is.long in
+    let row = subst (λ (v : CoreView). Rattle.pfc_span.specs.Tiling.AreInRow v.block_size off parts) (sym is.begins.rest) is.tiles.row in
+    let are = is.asked.waiting_are off row in
     record {
-      tickets_are = All-reverse (IsTokenOf r TicketKind) tickets (All-weaker (IsOf mid TicketKind n) (IsTokenOf r TicketKind) (λ m h. token-of mid n r TicketKind m home h) tickets is.asked.tickets_are);
-      pendings_are = All-reverse P pendings fits;
+      tickets_are = All-weaker (IsOf mid TicketKind n) (IsTokenOf r TicketKind) (λ m h. token-of mid n r TicketKind m home h) draft.tickets.items is.asked.tickets_are;
       pins_are = All-nil (IsTokenOf r PinKind);
-      owed_is = tt;
+      pendings_are = All-weaker (IsAsked mid n off all) (IsFit r off len) (λ p h. subst (λ t. IsFit r off t p) total (fit-of mid n off all r p home h)) draft.pendings.items are.pendings;
+      disks_are = All-weaker (IsStored mid n off all) (IsFound r off len) (λ p h. subst (λ t. IsFound r off t p) total (found-of mid n off all r p home h)) draft.disks.items are.disks;
+      owed_are = All-weaker (IsSent mid n off all) (IsOwed r off len) (λ p h. subst (λ t. IsOwed r off t p) total (owed-of mid n off all r p home h)) draft.owed.items are.owed;
       hand_is = tt;
     }
 
-pub planned-counted : {W : Type 0} (told : Bool) (files : Files) (old mid : CoreView) (n : ℕ) (piece : Piece) (r : Mark) (parts : List Part) (len number : ℕ) (tickets : List Mark) (pendings : List (Pending W)) (hits waits : ℕ) (met : Option Fell) (new : CoreView) →
-    IsPlanned told files old mid n piece r parts len number tickets pendings hits waits met new →
-    AreCounted r.block_size len (reverse tickets) (reverse pendings) None hand.Nothing (record { hits = hits; waits = waits; directs = 0; failed = 0 }) (record { hit = 0; missed = 0; bypassed = 0 }) met
-planned-counted {W = W} told files old mid n piece r parts len number tickets pendings hits waits met new is =
+pub planned-counted : {W : Type 0} (told : Bool) (files : Files) (old mid : CoreView) (n : ℕ) (piece : Piece) (r : Mark) (parts : List Part) (len number : ℕ) (draft : Draft W) (met : Option Fell) (new : CoreView) →
+    IsPlanned told files old mid n piece r parts len number draft met new → AreCounted r.block_size len draft.tickets.items (waiting_in draft) hand.Nothing draft.counts (record { hit = 0; missed = 0; bypassed = 0 }) met
+planned-counted {W = W} told files old mid n piece r parts len number draft met new is =
     let home = home-of old mid n r is.begins in
     let total : sum_by part_len parts ≡ len = is.tiles.whole ∙ sym is.long in
-    let sums : (f : Segment → ℕ) → sum_by (in_pending f) (reverse pendings) ≡ sum_by (in_pending f) pendings = λ f. sum_by-reverse (in_pending f) pendings in
-    let lens = sums len_in in
     let front = sum_by-take-le part_len parts number in
     let k_is : r.block_size ≡ mid.block_size = home.block_size_is in
     let few = number-le-lens old.size old.block_size parts is.tiles.inside in
-    let a = length-reverse tickets in
-    let b = length-reverse pendings in
+    let lens = is.asked.lens in
     record {
-      within = let l = is.asked.lens in omega (arith, lens, l, front, total);
-      whole = λ none. let all : sum_by part_len (take number parts) ≡ sum_by part_len parts = ap (sum_by part_len) (ap (λ m. take m parts) (is.all none) ∙ take-length parts) in let l = is.asked.lens in omega (arith, lens, l, all, total);
-      hit = let s = sums (len_from source.Memory) in let m = is.asked.memory_lens in let k = ap (λ x. x * hits) k_is in omega (arith, s, m, k);
-      missed = let s = sums (len_from source.Flight) in let m = is.asked.flight_lens in let k = ap (λ x. x * waits) k_is in omega (arith, s, m, k);
-      bypassed = let s = sums (len_from source.Origin) in let m = is.asked.origin_lens in omega (arith, s, m);
+      within = omega (arith, lens, front, total);
+      whole = λ none. let all : sum_by part_len (take number parts) ≡ sum_by part_len parts = ap (sum_by part_len) (ap (λ m. take m parts) (is.all none) ∙ take-length parts) in omega (arith, lens, all, total);
+      hit = let m = is.asked.cache_lens in let k = ap (λ x. x * draft.counts.hits) k_is in omega (arith, m, k);
+      missed = let m = is.asked.flight_lens in let k = ap (λ x. x * draft.counts.waits) k_is in omega (arith, m, k);
+      bypassed = let m = is.asked.origin_lens in let k = ap (λ x. x * draft.counts.directs) k_is in omega (arith, m, k);
       parts = let c = is.asked.counts in let w = is.within in omega (arith, c, w, few, total);
-      flights = let f = is.asked.few in omega (arith, f, a);
-      directs = let c = is.asked.counts in let m = is.asked.number_is in omega (arith, c, m, b);
+      flights = let f = is.asked.few in let z = is.asked.failed_is in omega (arith, f, z);
+      directs = let m = is.asked.number_is in let o = is.asked.leaves_is in let w = is.within in omega (arith, m, o, w, few, total);
     }
 
-pub planned-sound : {W : Type 0} (told : Bool) (files : Files) (old mid : CoreView) (n : ℕ) (piece : Piece) (r : Mark) (parts : List Part) (bytes : List ℕ) (number : ℕ) (tickets : List Mark) (pendings : List (Pending W)) (hits waits : ℕ) (met : Option Fell) (new : CoreView) →
-    IsPlanned told files old mid n piece r parts (length bytes) number tickets pendings hits waits met new → IsSound told files r piece bytes (reverse pendings) None hand.Nothing met
-planned-sound {W = W} told files old mid n piece r parts bytes number tickets pendings hits waits met new is =
+pub planned-sound : {W : Type 0} (told : Bool) (files : Files) (old mid : CoreView) (n : ℕ) (piece : Piece) (r : Mark) (parts : List Part) (bytes : List ℕ) (number : ℕ) (draft : Draft W) (met : Option Fell) (new : CoreView) →
+    IsPlanned told files old mid n piece r parts (length bytes) number draft met new → IsSound told files r piece bytes (waiting_in draft) hand.Nothing met
+planned-sound {W = W} told files old mid n piece r parts bytes number draft met new is =
     let reads = is.begins.reads in
     let k_is : r.block_size ≡ old.block_size = reads.block_size_is in
     let total : sum_by part_len parts ≡ length bytes = is.tiles.whole ∙ sym is.long in
@@ -161,13 +169,12 @@ planned-sound {W = W} told files old mid n piece r parts bytes number tickets pe
           let all : take number parts ≡ parts = ap (λ m. take m parts) (is.all none) ∙ take-length parts in
           let here : j < sum_by part_len (take number parts) = let s = ap (sum_by part_len) all in omega (arith, s, low, total) in
           let some = is.asked.covered j here in
-          let s = sum_by-reverse (in_pending (covers j)) pendings in
-          absurd (omega (arith, some, s, zero));
+          absurd (omega (arith, some, zero));
     }
 
-pub planned-staged : {W : Type 0} (len : ℕ) (tickets : List Mark) (pendings : List (Pending W)) (met : Option Fell) → (met ≡ None) ⊎ (met ≡ Some Memory) → IsStaged len tickets pendings None hand.Nothing 0 met
-planned-staged len tickets pendings met met_is = record {
-  hurt = λ h. absurd (omega (arith, h));
+pub planned-staged : {W : Type 0} (len : ℕ) (tickets : List Mark) (w : Waiting W) (failed : ℕ) (met : Option Fell) → failed ≡ 0 → (met ≡ None) ⊎ (met ≡ Some Memory) → IsStaged len tickets w hand.Nothing failed met
+planned-staged len tickets w failed met none met_is = record {
+  hurt = λ h. absurd (omega (arith, h, none));
   fetch = λ f. elim met_is [ inl none ↦ let e : None ≡ Some Fault = sym none ∙ f in cc | inr memory ↦ let e : Some Memory ≡ Some Fault = sym memory ∙ f in cc ];
   stands = tt;
 }
@@ -178,16 +185,11 @@ drop-all n parts e = nil_from_length (drop n parts) (let l = length-drop n parts
 pub pins-number : {W : Type 0} (pendings : List (Pending W)) (pins : List Mark) → pins ≡ [] → length (map pin_in pendings ++ pins) ≡ length pendings
 pins-number pendings pins none = let a = length-append (map pin_in pendings) pins in let m = length-map pendings pin_in in let z = ap length none in omega (arith, a, m, z)
 
-sum_by-pins : {W : Type 0} (w : Mark → ℕ) (pendings : List (Pending W)) → sum_by w (map pin_in pendings) ≡ sum_by (λ p. w (pin_in p)) pendings
-sum_by-pins w [] = refl
-sum_by-pins {W = W} w (p ∷ ps) = sum_by-cons w p.pin (map pin_in ps) ∙ ap (λ n. w p.pin + n) (sum_by-pins w ps) ∙ sym (sum_by-cons (λ (q : Pending W). w (pin_in q)) p ps)
+pub disks-number : {W : Type 0} (disks : List (Found W)) → length (map disk_in disks) ≡ length disks
+disks-number disks = length-map disks disk_in
 
-pub sum_by-map-reverse : {W : Type 0} (w : Mark → ℕ) (pendings : List (Pending W)) → sum_by w (map pin_in (reverse pendings)) ≡ sum_by w (map pin_in pendings)
-sum_by-map-reverse {W = W} w pendings = sum_by-pins w (reverse pendings) ∙ sum_by-reverse (λ (q : Pending W). w (pin_in q)) pendings ∙ sym (sum_by-pins w pendings)
-
-pub pins-again : {W : Type 0} (w : Mark → ℕ) (before after : List (Pending W)) (pins : List Mark) → after ≡ reverse before → pins ≡ [] → sum_by w (map pin_in after ++ pins) ≡ sum_by w (map pin_in before)
-pins-again w before after pins e none =
-    let a = sum_by-append w (map pin_in after) pins in
+pub pins-alone : {W : Type 0} (w : Mark → ℕ) (pendings : List (Pending W)) (pins : List Mark) → pins ≡ [] → sum_by w (map pin_in pendings ++ pins) ≡ sum_by w (map pin_in pendings)
+pins-alone w pendings pins none =
+    let a = sum_by-append w (map pin_in pendings) pins in
     let z = ap (sum_by w) none in
-    let m : sum_by w (map pin_in after) ≡ sum_by w (map pin_in before) = ap (λ ps. sum_by w (map pin_in ps)) e ∙ sum_by-map-reverse w before in
-    omega (arith, a, z, m)
+    omega (arith, a, z)

@@ -46,18 +46,20 @@ pub record Knows (v : CoreView) (op : OpView) : Type 0 where
   pub instance_is : op.reading.instance ≡ v.instance
   pub each : (m : Mark) → m.instance ≡ v.instance → held (sees m) op ≤ listed m v.out
 
--- what the end of a reading with these pins changes
-pub record GivesBack (old : CoreView) (reading : Mark) (pins : List Mark) (served : Option Served) (new : CoreView) : Type 0 where
-  pub known : 0 < listed reading old.out → Finishes old reading pins served new
+-- what the end of a reading with these pins, and these rights to read from disk, changes
+pub record GivesBack (old : CoreView) (reading : Mark) (pins disks : List Mark) (served : Option Served) (new : CoreView) : Type 0 where
+  pub known : 0 < listed reading old.out → Finishes old reading pins disks served new
   pub strange : listed reading old.out ≡ 0 → new ≡ old
   pub unchanged : new ≡ record old { entries = new.entries; out = new.out }
-  pub spends : 0 < listed reading old.out → ((m : Mark) → sees m reading + listed m pins ≤ listed m old.out) → (w : Mark → ℕ) → sum_by w new.out + w reading + sum_by w pins ≡ sum_by w old.out
+  pub spends : 0 < listed reading old.out → ((m : Mark) → sees m reading + listed m pins + listed m disks ≤ listed m old.out) → (w : Mark → ℕ) → sum_by w new.out + w reading + sum_by w pins + sum_by w disks ≡ sum_by w old.out
 
--- the reading ends with its entry and the pins go back, in some order
+-- the reading ends with its entry, and the pins and the rights to read from disk go back, in some order
 pub record Closes (old : CoreView) (op : OpView) (served : Option Served) (new : CoreView) : Type 0 where
   pub pins : List Mark
-  pub same : (w : Mark → ℕ) → sum_by w pins ≡ sum_by w op.pins
-  pub finishes : Finishes old op.reading pins served new
+  pub disks : List Mark
+  pub same_pins : (w : Mark → ℕ) → sum_by w pins ≡ sum_by w op.pins
+  pub same_disks : (w : Mark → ℕ) → sum_by w disks ≡ sum_by w op.disks
+  pub finishes : Finishes old op.reading pins disks served new
   pub unchanged : new ≡ record old { entries = new.entries; out = new.out }
   pub mine : tally op.reading.client new.entries ≡ with_served (tally op.reading.client old.entries) served
   pub others : (m : ℕ) → (op.reading.client == m) ≡ false → tally m new.entries ≡ tally m old.entries

@@ -20,7 +20,7 @@ pub record Fills (old : OpView) (pin : Mark) (new : OpView) : Type 0 where
   pub gains : Gains old.pins pin new.pins
   pub rest : new ≡ record old { pins = new.pins; given = Nothing }
 
--- a leave came in the place of the pin
+-- a leave came in the place of the pin, or of the right to read from disk
 pub record Owes (old new : OpView) : Type 0 where
   pub rest : new ≡ record old { leaves = old.leaves + 1; directs = old.directs + 1; given = Nothing }
 

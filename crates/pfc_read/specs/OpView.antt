@@ -11,18 +11,21 @@ pub data Given : Type 0 where
   ToRun : Given
   ToFill : (part : Part) → Given
   ToLook : (part : Part) → Given
+  ToRead : (part : Part) → Given
   ToEnd : Given
 
 -- What is read, and the reading, which names the client and the file. The tickets that weren't given yet, and the pins but
--- for one that is given out. How many pins weren't looked at with success yet, and how many direct reads are to be given.
--- How many parts were in memory when they were asked for, how many wait for a flight, and for how many a leave came. How
--- many flights of its own failed, and what came first of all that keeps it from data.
+-- for one that is given out. How many pins weren't looked at with success yet, the tokens for blocks on disk that weren't
+-- given yet, and how many direct reads are to be given. How many parts were in memory or on disk when they were asked for,
+-- how many wait for a flight, and for how many a leave came. How many flights of its own failed, and what came first of all
+-- that keeps it from data.
 pub record OpView : Type 0 where
   pub piece : Piece
   pub reading : Mark
   pub tickets : List Mark
   pub pins : List Mark
   pub looks : ℕ
+  pub disks : List Mark
   pub leaves : ℕ
   pub hits : ℕ
   pub waits : ℕ
@@ -33,7 +36,7 @@ pub record OpView : Type 0 where
 
 -- what the read holds of its core, weighed
 abbrev pub held : (Mark → ℕ) → OpView → ℕ
-held w op = w op.reading + sum_by w op.tickets + sum_by w op.pins
+held w op = w op.reading + sum_by w op.tickets + sum_by w op.pins + sum_by w op.disks
 
 -- the first that came
 abbrev pub first_met : Option Fell → Fell → Option Fell

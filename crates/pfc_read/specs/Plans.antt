@@ -14,32 +14,31 @@ use Rattle.pfc_read.specs.OpView.{Nothing, OpView, held}
 -- one decision for each part, in order; the world is of no account here
 abbrev pub DecidesAll : CoreView → ℕ → List Part → CoreView → Type 0
 DecidesAll old n [] new = new ≡ old
-DecidesAll old n (part ∷ parts) new = (decision : Decision (Unit {0})) × (mid : CoreView) × Decides old n part.block decision mid × DecidesAll mid n parts new
+DecidesAll old n (part ∷ parts) new = (decision : Decision (Unit {0})) × (mid : CoreView) × Decides old n part decision mid × DecidesAll mid n parts new
 
--- so many parts more were found in memory, and so many wait for a flight
-abbrev pub with_asked : Tally → ℕ → ℕ → Tally
-with_asked t hits waits = record t { hits = t.hits + hits; waits = t.waits + waits }
+-- so many parts more were found in memory or on disk, so many wait for a flight, and so many are read from the origin itself
+abbrev pub with_asked : Tally → ℕ → ℕ → ℕ → Tally
+with_asked t hits waits directs = record t { hits = t.hits + hits; waits = t.waits + waits; directs = t.directs + directs }
 
 -- The reading begins, and then the parts that tile the piece are decided in order, up to one that is refused for want of
--- memory. The client's tally has a hit or a wait more for each, and no other tally changes.
+-- memory. The client's tally has a hit, a wait or a direct read more for each, and no other tally changes.
 pub record Plans (old : CoreView) (n : ℕ) (piece : Piece) (op : OpView) (new : CoreView) : Type 0 where
   pub piece_is : op.piece ≡ piece
   pub idle : op.given ≡ Nothing
   pub failed_is : op.failed ≡ 0
-  pub directs_is : op.directs ≡ 0
-  pub leaves_is : op.leaves ≡ 0
+  pub leaves_is : op.leaves ≡ op.directs
   pub met_is : (op.met ≡ None) ⊎ (op.met ≡ Some Memory)
   pub decided : List Part
   pub rest : List Part
   pub tiles : Tiles old.size old.block_size piece (decided ++ rest)
   pub all : op.met ≡ None → rest ≡ []
-  pub number : op.hits + op.waits ≡ length decided
-  pub looks_is : op.looks ≡ length decided
-  pub pins_are : length op.pins ≡ length decided
+  pub number : op.hits + op.waits + op.directs ≡ length decided
+  pub looks_is : op.looks + length op.disks + op.leaves ≡ length decided
+  pub pins_are : length op.pins ≡ op.looks
   pub mid : CoreView
   pub begins : Begins old n op.reading mid
   pub decides : DecidesAll mid n decided new
   pub gains : (w : Mark → ℕ) → sum_by w new.out ≡ sum_by w old.out + held w op
   pub unchanged : new ≡ record old { entries = new.entries; out = new.out }
-  pub mine : tally n new.entries ≡ with_asked (tally n old.entries) op.hits op.waits
+  pub mine : tally n new.entries ≡ with_asked (tally n old.entries) op.hits op.waits op.directs
   pub others : (m : ℕ) → (n == m) ≡ false → tally m new.entries ≡ tally m old.entries

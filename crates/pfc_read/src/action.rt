@@ -1,5 +1,5 @@
 use pfc_base::Part;
-use pfc_core::{Leave, Pin, Ticket};
+use pfc_core::{Leave, OnDisk, Pin, Ticket};
 use pfc_log::{Fell, Served};
 use pfc_world::World;
 
@@ -11,6 +11,9 @@ pub enum Action<W: World> {
     Direct(Leave<W>),
     /// See what has become of the pin's flight, by `look`.
     Look(Pin<W>, Part),
+    /// Read the part from disk, by `read` with a loan of the file's store, and end the token; or leave the token, and `owe` the
+    /// part a direct read.
+    Disk(OnDisk<W>, Part),
     /// There is nothing more to do: `finish`.
     Finish,
 }

@@ -2,21 +2,23 @@
 ghost use Rattle.std.specs.Prelude.{◌≡◌, ◌+◌, ◌++◌, ◌<◌, ◌≤◌, ◌^◌, [], ◌∷◌, IfOk, All, OnOk, OnErr, length, map, sum_by, vec_len, vec_capacity};
 ghost use Rattle.pfc_base.specs.Block.{IsPartOf};
 ghost use Rattle.pfc_span.specs.Tiling.{part_len};
-ghost use Rattle.pfc_read.specs.Draft.{IsEmptyFor, Asks, AsksAll};
+ghost use Rattle.pfc_read.specs.Draft.{IsEmptyFor, HasRoom, IsTurned, Asks, AsksAll};
 
-use crate::segment::{Pending, Segment, Source};
+use crate::segment::{Counts, Found, Owed, Pending, Segment, Source};
 use pfc_base::{Memory, Part};
 use pfc_core::{Decision, FileCore, Pin, Ticket};
 use pfc_log::Fell;
 use pfc_world::World;
 use std::alloc::Global;
 
-/// What was decided for a read so far: its tickets, and its pins with the places of their parts in the reply.
+/// What was decided for a read so far: its tickets, and its pins, rights to read from disk and leaves, each with the place of
+/// its part in the reply.
 pub(crate) struct Draft<W: World> {
     pub tickets: Vec<Ticket<W>>,
     pub pendings: Vec<Pending<W>>,
-    pub hits: u64,
-    pub waits: u64,
+    pub disks: Vec<Found<W>>,
+    pub owed: Vec<Owed<W>>,
+    pub counts: Counts,
 }
 
 impl<W: World> Draft<W> {
@@ -25,26 +27,47 @@ impl<W: World> Draft<W> {
         ensures { IfOk result (IsEmptyFor parts) }
     {
         let pendings = Vec::with_capacity(alloc, parts)?;
+        let tickets = Vec::with_capacity(alloc, parts)?;
+        let Ok(disks) = Vec::with_capacity(alloc, parts) else {
+            tickets.destroy_empty();
+            return Err(Memory);
+        };
+        let Ok(owed) = Vec::with_capacity(alloc, parts) else {
+            tickets.destroy_empty();
+            disks.destroy_empty();
+            return Err(Memory);
+        };
         Ok(Draft {
-            tickets: Vec::with_capacity(alloc, parts)?,
+            tickets,
             pendings,
-            hits: 0,
-            waits: 0,
+            disks,
+            owed,
+            counts: Counts {
+                hits: 0,
+                waits: 0,
+                directs: 0,
+                failed: 0,
+            },
         })
     }
 
     /// Ends a draft in which nothing was decided.
     pub fn discard(self)
-        requires { vec_len self.tickets ≡ 0 }
+        requires tickets { vec_len self.tickets ≡ 0 }
+        requires disks { vec_len self.disks ≡ 0 }
+        requires owed { vec_len self.owed ≡ 0 }
     {
         let Draft {
             tickets,
             pendings,
-            hits: _,
-            waits: _,
+            disks,
+            owed,
+            counts: _,
         } = self;
         drop(pendings);
         tickets.destroy_empty();
+        disks.destroy_empty();
+        owed.destroy_empty();
     }
 
     fn keep(&mut self, pin: Pin<W>, part: Part, at: usize, source: Source)
@@ -60,26 +83,39 @@ impl<W: World> Draft<W> {
     /// Decides for one part, which starts at this place of the reply.
     fn ask(&mut self, core: &mut FileCore<W>, n: u32, part: Part, at: usize) -> Result<(), Memory>
         requires part { IsPartOf core.old.size core.old.block_size part }
-        requires tickets { vec_len self.old.tickets < vec_capacity self.old.tickets }
-        requires pendings { vec_len self.old.pendings < vec_capacity self.old.pendings }
-        requires few { self.old.hits + self.old.waits < 2 ^ 63 }
+        requires room { HasRoom self.old }
+        requires few { self.old.counts.hits + self.old.counts.waits + self.old.counts.directs < 2 ^ 63 }
         ensures memory { OnErr result (core.new ≡ core.old) }
         ensures same { OnErr result (self.new ≡ self.old) }
         ensures ok { OnOk result (Asks core.old n part at self.old self.new core.new) }
     {
         match core.decide(n, part)? {
+            Decision::Direct(leave) => {
+                let source = Source::Origin;
+                let segment = Segment { part, at, source };
+                self.counts.directs += 1;
+                self.owed.push_reserved(Owed { leave, segment });
+                Ok(())
+            }
             Decision::Resident(pin) => {
-                self.hits += 1;
-                self.keep(pin, part, at, Source::Memory);
+                self.counts.hits += 1;
+                self.keep(pin, part, at, Source::Cache);
                 Ok(())
             }
             Decision::Joined(pin) => {
-                self.waits += 1;
+                self.counts.waits += 1;
                 self.keep(pin, part, at, Source::Flight);
                 Ok(())
             }
+            Decision::Stored(disk) => {
+                let source = Source::Cache;
+                let segment = Segment { part, at, source };
+                self.counts.hits += 1;
+                self.disks.push_reserved(Found { disk, segment });
+                Ok(())
+            }
             Decision::Fetch(ticket, pin) => {
-                self.waits += 1;
+                self.counts.waits += 1;
                 self.tickets.push_reserved(ticket);
                 self.keep(pin, part, at, Source::Flight);
                 Ok(())
@@ -87,8 +123,20 @@ impl<W: World> Draft<W> {
         }
     }
 
-    /// Decides for the parts in order, until memory is refused.
+    /// Decides for the parts in order, until memory is refused. What comes first stands last in each list, from whose end it is
+    /// taken.
     pub fn ask_all(&mut self, core: &mut FileCore<W>, n: u32, parts: &[(u32, Part)]) -> Option<Fell>
+        requires empty { IsEmptyFor (length parts.now) self.old }
+        requires few { sum_by part_len (map (λ x. x.1) parts.now) ≤ 16777216 }
+        requires inside { All (IsPartOf core.old.size core.old.block_size) (map (λ x. x.1) parts.now) }
+        ensures { AsksAll core.old n (map (λ x. x.1) parts.now) self.new result core.new }
+    {
+        let met = self.ask_each(core, n, parts);
+        self.turn();
+        met
+    }
+
+    fn ask_each(&mut self, core: &mut FileCore<W>, n: u32, parts: &[(u32, Part)]) -> Option<Fell>
         requires empty { IsEmptyFor (length parts.now) self.old }
         requires few { sum_by part_len (map (λ x. x.1) parts.now) ≤ 16777216 }
         requires inside { All (IsPartOf core.old.size core.old.block_size) (map (λ x. x.1) parts.now) }
@@ -102,5 +150,15 @@ impl<W: World> Draft<W> {
             at += part.len as usize;
         }
         None
+    }
+
+    /// Turns each list round.
+    fn turn(&mut self)
+        ensures { IsTurned self.old self.new }
+    {
+        self.tickets.reverse();
+        self.pendings.reverse();
+        self.disks.reverse();
+        self.owed.reverse();
     }
 }

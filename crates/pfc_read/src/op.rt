@@ -1,18 +1,19 @@
 // One read, from its plan to its end.
-ghost use Rattle.std.specs.Prelude.{◌≡◌, ◌<◌, ◌≤◌, ◌-◌, ◌^◌, min, map, vec_len, OnErr, IfOk};
+ghost use Rattle.std.specs.Prelude.{◌≡◌, ◌<◌, ◌≤◌, ◌-◌, ◌^◌, [], min, map, vec_len, OnErr, IfOk};
 ghost use Rattle.pfc_span.specs.Tiling.{Tiles};
 ghost use Rattle.pfc_read.specs.OpView.{Nothing, ToRun, first_met};
 ghost use Rattle.pfc_read.specs.Plans.{Plans};
 ghost use Rattle.pfc_read.specs.Steps.{Gives, Supplies};
 
+mod disk;
 mod end;
 mod fill;
 
 use crate::action::{Action, Done};
 use crate::draft::Draft;
-use crate::segment::{Counts, Hand, Owed, Pending};
+use crate::segment::{Counts, Found, Hand, Owed, Pending};
 use pfc_base::{Memory, Part, Piece};
-use pfc_core::{FileCore, Pin, Reading, Ticket};
+use pfc_core::{FileCore, OnDisk, Pin, Reading, Ticket};
 use pfc_log::{Fell, Served};
 use pfc_span::parts;
 use pfc_world::World;
@@ -28,7 +29,10 @@ pub struct ReadOp<W: World> {
     tickets: Vec<Ticket<W>>,
     pendings: Vec<Pending<W>>,
     pins: Vec<Pin<W>>,
-    owed: Option<Owed<W>>,
+    disks: Vec<Found<W>>,
+    /// Empty until the end: the room for the rights to read from disk that go back to the core.
+    unread: Vec<OnDisk<W>>,
+    owed: Vec<Owed<W>>,
     hand: Hand,
     counts: Counts,
     served: Served,
@@ -102,19 +106,23 @@ impl<W: World> ReadOp<W> {
         let (parts, bytes) = lay_out(alloc, piece, size, core.block_size())?;
         let pins = Vec::with_capacity(alloc, parts.len())?;
         let mut draft = Draft::new(alloc, parts.len())?;
+        let Ok(unread) = Vec::with_capacity(alloc, parts.len()) else {
+            draft.discard();
+            return Err(Memory);
+        };
         let Ok(reading) = core.begin_read(n) else {
+            unread.destroy_empty();
             draft.discard();
             return Err(Memory);
         };
         let met = draft.ask_all(core, n, &parts);
         let Draft {
-            mut tickets,
-            mut pendings,
-            hits,
-            waits,
+            tickets,
+            pendings,
+            disks,
+            owed,
+            counts,
         } = draft;
-        tickets.reverse();
-        pendings.reverse();
         Ok(ReadOp {
             piece,
             reading,
@@ -122,14 +130,11 @@ impl<W: World> ReadOp<W> {
             tickets,
             pendings,
             pins,
-            owed: None,
+            disks,
+            unread,
+            owed,
             hand: Hand::Nothing,
-            counts: Counts {
-                hits,
-                waits,
-                directs: 0,
-                failed: 0,
-            },
+            counts,
             served: Served {
                 hit: 0,
                 missed: 0,
@@ -155,22 +160,37 @@ impl<W: World> ReadOp<W> {
             self.hand = Hand::Ticket;
             return Action::Run(ticket);
         }
-        if let Some(owed) = self.owed.take() {
+        if let Some(owed) = self.owed.pop() {
             let Owed { leave, segment } = owed;
             self.hand = Hand::Leave(segment);
             return Action::Direct(leave);
         }
+        self.next_part()
+    }
+
+    /// The next action where no ticket and no leave is to be given any more.
+    fn next_part(&mut self) -> Action<W>
+        requires idle { self.old.given ≡ Nothing }
+        requires flown { self.old.tickets ≡ [] }
+        requires filled { self.old.leaves ≡ 0 }
+        ensures { Gives self.old result self.new }
+    {
         if self.counts.failed > 0 {
             self.hand = Hand::End;
             return Action::Finish;
         }
-        let Some(pending) = self.pendings.pop() else {
-            self.hand = Hand::End;
-            return Action::Finish;
-        };
-        let Pending { pin, segment } = pending;
-        self.hand = Hand::Pin(segment);
-        Action::Look(pin, segment.part)
+        if let Some(pending) = self.pendings.pop() {
+            let Pending { pin, segment } = pending;
+            self.hand = Hand::Pin(segment);
+            return Action::Look(pin, segment.part);
+        }
+        if let Some(found) = self.disks.pop() {
+            let Found { disk, segment } = found;
+            self.hand = Hand::Disk(segment);
+            return Action::Disk(disk, segment.part);
+        }
+        self.hand = Hand::End;
+        Action::Finish
     }
 
     /// Tells how a flight of the read ended.

@@ -2,13 +2,14 @@
 ghost use Rattle.std.specs.Prelude.{◌≡◌, ◌+◌, ◌<◌, ◌^◌};
 
 use pfc_base::Part;
-use pfc_core::{Leave, Pin};
+use pfc_core::{Leave, OnDisk, Pin};
 use pfc_world::World;
 
-/// Where the bytes of a part come from: a block that was in memory, a flight that was waited for, or the origin itself.
+/// Where the bytes of a part come from: a block that was in memory or on disk, a flight that was waited for, or the origin
+/// itself.
 #[derive(Clone, Copy, Debug, PartialEq, Eq)]
 pub(crate) enum Source {
-    Memory,
+    Cache,
     Flight,
     Origin,
 }
@@ -25,6 +26,12 @@ pub(crate) struct Segment {
 #[derive(Drop)]
 pub(crate) struct Pending<W: World> {
     pub pin: Pin<W>,
+    pub segment: Segment,
+}
+
+/// A part that is on disk, with the right to read it there. The right must be spent.
+pub(crate) struct Found<W: World> {
+    pub disk: OnDisk<W>,
     pub segment: Segment,
 }
 
@@ -48,10 +55,12 @@ pub(crate) enum Hand {
     Ticket,
     Leave(Segment),
     Pin(Segment),
+    Disk(Segment),
     End,
 }
 
-/// How many parts were found in memory, wait for a flight, and came by a leave, and how many flights of the read failed.
+/// How many parts were found in memory or on disk, wait for a flight, and are read by a leave, and how many flights of the
+/// read failed.
 #[derive(Clone, Copy, Debug, PartialEq, Eq)]
 pub(crate) struct Counts {
     pub hits: u64,

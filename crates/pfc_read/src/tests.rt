@@ -1,13 +1,15 @@
 //! Reads over the world of rows, in which byte j of each file is j modulo 251: `/a` has 8193 bytes.
-ghost use Rattle.std.specs.Prelude.{◌≡◌, ◌≤◌, IfOk, MatchBool};
+ghost use Rattle.std.specs.Prelude.{◌≡◌, ◌≤◌, length, IfOk, MatchBool};
 ghost use Rattle.pfc_read.specs.OpView.{Nothing, ToEnd};
 
+mod disk;
+
 use crate::{Action, Answer, Done, ReadOp};
-use pfc_base::{Path, Piece, block_count};
+use pfc_base::{BlockSet, Path, Piece, block_count};
 use pfc_core::{FileCore, Flight, Line, Strayed, Ticket};
 use pfc_log::{Fell, Served, push_log};
 use pfc_memory::{MemoryHost, MemoryLink, RowWorld};
-use pfc_world::Host;
+use pfc_world::{Host, Known};
 use std::alloc::Global;
 use std::process::Abort;
 use std::test::Fail;
@@ -28,16 +30,44 @@ fn line_of(alloc: Global, fails: &[u64]) -> Result<RowLine, Fail> {
     Ok(Line::new(host.link(alloc, 1)?))
 }
 
-/// A core of the file `/a` in blocks of 4096 bytes, for which the line is asked once.
+/// The file `/a`, for which the line is asked once.
+fn known_of(line: &mut RowLine) -> Result<Known<RowWorld>, Fail> {
+    let path = Path::read(b"/a")?;
+    Ok(line.stat(&path)?.ok_or("no file")?)
+}
+
+/// So many blocks, of which this one is on disk.
+fn set_of(alloc: Global, count: u32, on_disk: Option<u32>) -> Result<BlockSet, Fail>
+    ensures { IfOk result (λ set. length set ≡ count) }
+{
+    let mut set = BlockSet::new(alloc, count)?;
+    match on_disk {
+        Some(block) if block < count => {
+            set.set(block);
+            Ok(set)
+        }
+        _ => Ok(set),
+    }
+}
+
+/// A core of that file in blocks of 4096 bytes, of which this one is on disk.
+fn core_with(alloc: Global, line: &mut RowLine, on_disk: Option<u32>) -> Result<Core, Fail>
+    ensures { IfOk result (λ core. core.block_size ≡ 4096) }
+{
+    let known = known_of(line)?;
+    let count = block_count(known.size(), 4096);
+    if count > 16777216 {
+        return Err(Fail::new("too many blocks"));
+    }
+    let start = set_of(alloc, count as u32, on_disk)?;
+    Ok(FileCore::new(alloc, 5, known, 4096, start)?)
+}
+
+/// A core of that file, of which no block is on disk.
 fn core_of(alloc: Global, line: &mut RowLine) -> Result<Core, Fail>
     ensures { IfOk result (λ core. core.block_size ≡ 4096) }
 {
-    let path = Path::read(b"/a")?;
-    let known = line.stat(&path)?.ok_or("no file")?;
-    if block_count(known.size(), 4096) > 16777216 {
-        return Err(Fail::new("too many blocks"));
-    }
-    Ok(FileCore::new(alloc, 5, known, 4096)?)
+    core_with(alloc, line, None)
 }
 
 /// Runs a flight to its end. Its job is let go, so the block stays in memory.
@@ -70,12 +100,41 @@ fn fly(
     }
 }
 
-/// Does the next action of a read, and says whether it was the last.
-fn step(rt: &impl Abort, alloc: Global, core: &mut Core, line: &mut RowLine, op: &mut Op) -> bool
+/// What a read is to do.
+#[derive(Clone, Copy, Debug, PartialEq, Eq)]
+enum Kind {
+    Run,
+    Direct,
+    Look,
+    Disk,
+    Finish,
+}
+
+fn kind_of(action: &Action<RowWorld>) -> Kind {
+    match action {
+        Action::Run(_) => Kind::Run,
+        Action::Direct(_) => Kind::Direct,
+        Action::Look(_, _) => Kind::Look,
+        Action::Disk(_, _) => Kind::Disk,
+        Action::Finish => Kind::Finish,
+    }
+}
+
+/// Does the next action of a read, and says whether it was the last. A part on disk is left to the origin.
+fn step(
+    rt: &impl Abort,
+    alloc: Global,
+    core: &mut Core,
+    line: &mut RowLine,
+    op: &mut Op,
+    kinds: &mut Vec<Kind>,
+) -> bool
     requires { op.old.given ≡ Nothing }
     ensures { MatchBool result (op.new.given ≡ ToEnd) (op.new.given ≡ Nothing) }
 {
-    match op.next() {
+    let action = op.next();
+    let _ = kinds.push(kind_of(&action));
+    match action {
         Action::Run(ticket) => {
             op.supply(fly(rt, alloc, core, line, ticket));
             false
@@ -88,16 +147,27 @@ fn step(rt: &impl Abort, alloc: Global, core: &mut Core, line: &mut RowLine, op:
             let _ = op.look(core, pin, part);
             false
         }
+        Action::Disk(disk, part) => {
+            op.owe(core.leave_broken(disk, part));
+            false
+        }
         Action::Finish => true,
     }
 }
 
-/// Ends a read, of which no flight of another client is still out.
-fn end(rt: &impl Abort, alloc: Global, core: &mut Core, line: &mut RowLine, mut op: Op) -> Answer
+/// Ends a read, of which no flight of another client is still out, and adds which actions it took.
+fn end(
+    rt: &impl Abort,
+    alloc: Global,
+    core: &mut Core,
+    line: &mut RowLine,
+    mut op: Op,
+    kinds: &mut Vec<Kind>,
+) -> Answer
     requires { op.given ≡ Nothing }
 {
     for _ in 0..16 {
-        if step(rt, alloc, core, line, &mut op) {
+        if step(rt, alloc, core, line, &mut op, kinds) {
             return op.finish(core);
         }
     }
@@ -118,7 +188,7 @@ fn read(
         return Err(Fail::new("small blocks"));
     }
     let op = ReadOp::plan(alloc, core, 1, piece)?;
-    Ok(end(rt, alloc, core, line, op))
+    Ok(end(rt, alloc, core, line, op, &mut Vec::new(alloc)))
 }
 
 /// A read of client 1 on a fresh core, with the calls of its line that fail.
@@ -205,8 +275,9 @@ fn share(rt: &impl Abort, alloc: Global, fails: &[u64]) -> Result<(Answer, Answe
         Ok(op) => op,
         Err(_) => panic!(rt; "no memory"),
     };
-    let first = end(rt, alloc, &mut core, &mut line, first);
-    let second = end(rt, alloc, &mut core, &mut line, second);
+    let mut kinds = Vec::new(alloc);
+    let first = end(rt, alloc, &mut core, &mut line, first, &mut kinds);
+    let second = end(rt, alloc, &mut core, &mut line, second, &mut kinds);
     let mut log = Vec::new(alloc);
     push_log(alloc, &mut log, core.known().path(), core.log())?;
     Ok((first, second, log))

@@ -1,14 +1,17 @@
 -- Which reports are caused: what may be reported of a schedule, where the counts of the clients' links were these and are those.
-use Rattle.std.specs.Prelude.{◌≡◌, ◌≢◌, ℕ, ◌+◌, ◌*◌, ◌<◌, ◌≤◌, Bool, false, List, [], length, map, All, AllPairs, sum_by}
+use Rattle.std.specs.Prelude.{◌≡◌, ◌≢◌, ℕ, ◌+◌, ◌*◌, ◌<◌, ◌≤◌, Bool, false, List, [], length, map, All, AllPairs, sum_by, Option, Some, None}
 use Rattle.pfc_base.specs.BlockSet.{is_member}
-use Rattle.pfc_world.specs.Files.{Files}
+use Rattle.pfc_world.specs.Files.{Files, HasSize}
 use Rattle.pfc_world.specs.Counts.{RoseBy, last_count}
 use Rattle.pfc_client.specs.declared.reply.Reply.{Reply}
 use Rattle.pfc_client.specs.Permitted.{ArePermitted}
 use Rattle.pfc_client.specs.Told.{stats, lost, opens, reads, bytes}
+use Rattle.pfc_base.specs.Block.{count_of}
+use Rattle.pfc_log.specs.Uncaching.{cause_of}
+use Rattle.pfc_log.specs.declared.entry.Uncached.{Uncached}
 use Rattle.pfc_log.specs.declared.start.Start.{Start}
 use Rattle.pfc_log.specs.declared.start.Start.TheVariants as start
-use Rattle.pfc_log.specs.Lawful.{IsComplete}
+use Rattle.pfc_log.specs.Lawful.{IsComplete, IsCached}
 use Rattle.pfc_log.specs.Tallies.{Tally, tally, nothing}
 use Rattle.pfc_report.specs.declared.report.Told.{Told}
 use Rattle.pfc_report.specs.declared.report.Section.{Section}
@@ -36,17 +39,28 @@ abbrev pub StartsEmpty : Start → Type 0
 StartsEmpty (start.Stored set) = (i : ℕ) → is_member set i ≡ false
 StartsEmpty (start.Uncached why) = ⊥
 
+-- without a store for this cause, if there is one
+abbrev pub StartsFor : Option Uncached → Start → Type 0
+StartsFor None first = StartsEmpty first
+StartsFor (Some why) first = first ≡ start.Uncached why
+
+-- The file is cached unless its path or its size says otherwise. The size is the origin's where the world tells it.
+pub record StartsRight (told : Bool) (files : Files) (k : ℕ) (path : List ℕ) (first : Start) : Type 0 where
+  pub size : ℕ
+  pub right : HasSize told files path size
+  pub start : StartsFor (cause_of path (count_of size k)) first
+
 -- those that were asked anything were told, in order of number, a reply to each request
 pub record AreTold (lines : List Line) (clients : List Told) : Type 0 where
   pub numbers : map (λ told. told.number) clients ≡ asked_clients lines
   pub each : All (λ told. length told.replies ≡ length (asked told.number lines)) clients
 
--- each log is lawful to its end, at which nothing is in flight or in memory and each open was closed; each path has one log; no log
--- starts with a block
-pub record AreComplete (logs : List Section) : Type 0 where
+-- Each log is lawful to its end, at which nothing is in flight or in memory and each open was closed. Each path has at most one
+-- log that starts with a store. No log starts with a block, and those of files that aren't cached start with the cause.
+pub record AreComplete (told : Bool) (files : Files) (k : ℕ) (logs : List Section) : Type 0 where
   pub complete : All (λ section. IsComplete section.log.first section.log.entries) logs
-  pub paths : AllPairs (λ section other. section.path ≢ other.path) logs
-  pub starts : All (λ section. StartsEmpty section.log.first) logs
+  pub paths : AllPairs (λ section other. IsCached section.log.first → IsCached other.log.first → section.path ≢ other.path) logs
+  pub starts : All (λ section. StartsRight told files k section.path section.log.first) logs
 
 -- the calls of a client's link that opens, flights and direct reads account for
 abbrev pub known_calls : ℕ → List (List ℕ) → List Reply → List Section → ℕ
@@ -89,7 +103,7 @@ pub record IsUnasked (n : ℕ) (logs : List Section) (before after : ℕ × ℕ)
 pub record IsCausedReport (told : Bool) (files : Files) (k : ℕ) (lines : List Line) (before after : Spent) (report : ReportView) : Type 0 where
   pub clients : AreTold lines report.clients
   pub permitted : All (λ c. ArePermitted told files (asked c.number lines) c.replies (before c.number).1 (after c.number).1) report.clients
-  pub complete : AreComplete report.logs
+  pub complete : AreComplete told files k report.logs
   pub calls : All (λ c. AreItsCalls c.number (asked c.number lines) c.replies report.logs (before c.number).0 (after c.number).0) report.clients
   pub served : All (λ c. IsServed k c.number c.replies report.logs) report.clients
   pub failed : All (λ c. AreItsFailures c.number (asked c.number lines) c.replies report.logs (before c.number).1 (after c.number).1) report.clients

@@ -1,6 +1,6 @@
 -- The report of a scene at its end.
 use Rattle.std.proofs.Common.{◌≡◌, ℕ, zero, suc, ◌+◌, ◌<◌, List, [], ◌∷◌, ◌++◌, length, map, get_or, sum_by, refl, subst, sym, ap, ◌∙◌, arith, Bool, true, false, if◌then◌else◌, ◌==◌, ne_eqb, eq-eqb}
-use Rattle.std.specs.Prelude.{All, filter, replicate}
+use Rattle.std.specs.Prelude.{All, filter, replicate, Option, Some, None}
 use Rattle.std.specs.List.{range_with_len}
 use Rattle.std.proofs.lemmas.Bool.Decides.{nat_tests}
 use Rattle.std.proofs.lemmas.List.{length-map}
@@ -9,7 +9,7 @@ use Rattle.std.proofs.lemmas.List.Elements.{All-nil, All-cons, All-get_or}
 use Rattle.std.proofs.lemmas.Simd.{map-map}
 use Rattle.pfc_log.proofs.Places.{by_bool}
 use Rattle.pfc_base.specs.BlockSet.{is_member}
-use Rattle.pfc_world.specs.Files.{Files}
+use Rattle.pfc_world.specs.Files.{Files, HasSize}
 use Rattle.pfc_world.specs.Counts.{RoseBy}
 use Rattle.pfc_client.specs.Told.{stats, lost}
 use Rattle.pfc_client.specs.Permitted.{ArePermitted}
@@ -22,40 +22,44 @@ use Rattle.pfc_report.specs.declared.report.Told.{Told}
 use Rattle.pfc_report.specs.declared.report.Section.{Section}
 use Rattle.pfc_report.specs.Schedule.{Line, asked, asked_clients, is_asked}
 use Rattle.pfc_report.specs.Spent.{spent_by, nothing_spent}
-use Rattle.pfc_report.specs.Caused.{over, tally_in, StartsEmpty, FitBlocks, AreItsCalls, IsServed, AreItsFailures, IsCausedReport}
+use Rattle.pfc_report.specs.Caused.{over, tally_in, StartsFor, StartsRight, FitBlocks, AreItsCalls, IsServed, AreItsFailures, IsCausedReport}
 use Rattle.pfc_actor.specs.StageView.{Rest}
 use Rattle.pfc_actor.specs.Stages.{shares, no_shares}
 use Rattle.pfc_actor.specs.Steps.{IsTallied, IsWithin}
 use Rattle.pfc_actor.specs.Clients.{ClientView, IsDone}
-use Rattle.pfc_scene.specs.Scenes.{IsScene, AreUnique, who, total}
+use Rattle.pfc_base.specs.Block.{count_of}
+use Rattle.pfc_log.specs.Uncaching.{cause_of}
+use Rattle.pfc_log.specs.declared.entry.Uncached.{Uncached}
+use Rattle.pfc_log.specs.Lawful.{IsCached}
+use Rattle.pfc_scene.specs.Scenes.{IsScene, AreUnique, who, total, start_for, start_of}
 use Rattle.pfc_scene.specs.Ends.{IsSection, AreSections, row_of, told_of, asked_by}
 use Rattle.pfc_scene.proofs.Scenes.{nobody, no_core}
 use Rattle.pfc_scene.proofs.Totals.{total_sum}
 
 -- ---- sections are what the cores were
 
-sections_long : (logs : List Section) (cores : List CoreView) → AreSections logs cores → length logs ≡ length cores
-sections_long [] [] s = refl
-sections_long [] (c ∷ cores) s = absurd s
-sections_long (x ∷ logs) [] s = absurd s
-sections_long (x ∷ logs) (c ∷ cores) s = ap suc (sections_long logs cores s.1)
+sections_long : (told : Bool) (files : Files) (logs : List Section) (cores : List CoreView) → AreSections told files logs cores → length logs ≡ length cores
+sections_long told files [] [] s = refl
+sections_long told files [] (c ∷ cores) s = absurd s
+sections_long told files (x ∷ logs) [] s = absurd s
+sections_long told files (x ∷ logs) (c ∷ cores) s = ap suc (sections_long told files logs cores s.1)
 
-section_at : (logs : List Section) (cores : List CoreView) (i : ℕ) (d : Section) (e : CoreView) → AreSections logs cores → i < length logs → IsSection (get_or logs i d) (get_or cores i e)
-section_at [] cores i d e s l = absurd (omega (arith, l))
-section_at (x ∷ logs) [] i d e s l = absurd s
-section_at (x ∷ logs) (c ∷ cores) zero d e s l = s.0
-section_at (x ∷ logs) (c ∷ cores) (suc i) d e s l = section_at logs cores i d e s.1 (omega (arith, l))
+section_at : (told : Bool) (files : Files) (logs : List Section) (cores : List CoreView) (i : ℕ) (d : Section) (e : CoreView) → AreSections told files logs cores → i < length logs → IsSection told files (get_or logs i d) (get_or cores i e)
+section_at told files [] cores i d e s l = absurd (omega (arith, l))
+section_at told files (x ∷ logs) [] i d e s l = absurd s
+section_at told files (x ∷ logs) (c ∷ cores) zero d e s l = s.0
+section_at told files (x ∷ logs) (c ∷ cores) (suc i) d e s l = section_at told files logs cores i d e s.1 (omega (arith, l))
 
-over_is : (f : Tally → ℕ) (n : ℕ) (logs : List Section) (cores : List CoreView) → AreSections logs cores → over f n logs ≡ sum_by (λ c. f (tally n c.entries)) cores
-over_is f n [] [] s = refl
-over_is f n [] (c ∷ cores) s = absurd s
-over_is f n (x ∷ logs) [] s = absurd s
-over_is f n (x ∷ logs) (c ∷ cores) s =
-    let rest = over_is f n logs cores s.1 in let same = ap (λ es. f (tally n es)) s.0.entries_are in
+over_is : (told : Bool) (files : Files) (f : Tally → ℕ) (n : ℕ) (logs : List Section) (cores : List CoreView) → AreSections told files logs cores → over f n logs ≡ sum_by (λ c. f (tally n c.entries)) cores
+over_is told files f n [] [] s = refl
+over_is told files f n [] (c ∷ cores) s = absurd s
+over_is told files f n (x ∷ logs) [] s = absurd s
+over_is told files f n (x ∷ logs) (c ∷ cores) s =
+    let rest = over_is told files f n logs cores s.1 in let same = ap (λ es. f (tally n es)) s.0.entries_are in
     omega (arith, sum_by-cons (λ (y : Section). f (tally_in n y)) x logs, sum_by-cons (λ (y : CoreView). f (tally n y.entries)) c cores, rest, same)
 
-over_total : (f : Tally → ℕ) → f nothing ≡ 0 → ((a b : Tally) → f (together a b) ≡ f a + f b) → (n : ℕ) (logs : List Section) (cores : List CoreView) → AreSections logs cores → over f n logs ≡ f (total n cores)
-over_total f none adds n logs cores s = over_is f n logs cores s ∙ sym (total_sum f none adds n cores)
+over_total : (told : Bool) (files : Files) (f : Tally → ℕ) → f nothing ≡ 0 → ((a b : Tally) → f (together a b) ≡ f a + f b) → (n : ℕ) (logs : List Section) (cores : List CoreView) → AreSections told files logs cores → over f n logs ≡ f (total n cores)
+over_total told files f none adds n logs cores s = over_is told files f n logs cores s ∙ sym (total_sum f none adds n cores)
 
 -- ---- starts
 
@@ -64,8 +68,16 @@ no_member zero i = refl
 no_member (suc n) zero = refl
 no_member (suc n) (suc i) = no_member n i
 
-starts_empty : (n : ℕ) (first : Start) → first ≡ Stored (replicate n false) → StartsEmpty first
-starts_empty n first e = rw e (λ i. no_member n i)
+starts_for : (cause : Option Uncached) (n : ℕ) → StartsFor cause (start_for cause n)
+starts_for None n = λ i. no_member n i
+starts_for (Some why) n = refl
+
+starts_right : (told : Bool) (files : Files) (k : ℕ) (path : List ℕ) (first : Start) (c : CoreView) → path ≡ c.path → HasSize told files c.path c.size → first ≡ start_of c.path (count_of c.size k) → StartsRight told files k path first
+starts_right told files k path first c same sized begins = rw (same, begins) (record {
+  size = c.size;
+  right = sized;
+  start = starts_for (cause_of c.path (count_of c.size k)) (count_of c.size k);
+})
 
 -- ---- rows
 
@@ -145,20 +157,20 @@ numbers_are lines clients is =
 
 -- ---- the parts of one client
 
-fit_all : (k n : ℕ) (logs : List Section) (cores : List CoreView) → AreSections logs cores → ((i : ℕ) (d : CoreView) → i < length cores → IsWithin no_shares k (tally n (get_or cores i d).entries)) → All (λ (x : Section). FitBlocks k (tally_in n x)) logs
-fit_all k n [] [] s within = All-nil (λ (x : Section). FitBlocks k (tally_in n x))
-fit_all k n [] (c ∷ cores) s within = absurd s
-fit_all k n (x ∷ logs) [] s within = absurd s
-fit_all k n (x ∷ logs) (c ∷ cores) s within =
+fit_all : (told : Bool) (files : Files) (k n : ℕ) (logs : List Section) (cores : List CoreView) → AreSections told files logs cores → ((i : ℕ) (d : CoreView) → i < length cores → IsWithin no_shares k (tally n (get_or cores i d).entries)) → All (λ (x : Section). FitBlocks k (tally_in n x)) logs
+fit_all told files k n [] [] s within = All-nil (λ (x : Section). FitBlocks k (tally_in n x))
+fit_all told files k n [] (c ∷ cores) s within = absurd s
+fit_all told files k n (x ∷ logs) [] s within = absurd s
+fit_all told files k n (x ∷ logs) (c ∷ cores) s within =
     let w = within 0 c (omega arith) in
     let here : FitBlocks k (tally n c.entries) = record { hit = let m = w.hit in omega (arith, m); missed = let m = w.missed in omega (arith, m); bypassed = let m = w.bypassed in omega (arith, m) } in
-    All-cons (λ (y : Section). FitBlocks k (tally_in n y)) x logs (subst (λ es. FitBlocks k (tally n es)) (sym s.0.entries_are) here) (fit_all k n logs cores s.1 (λ i d l. within (suc i) d (omega (arith, l))))
+    All-cons (λ (y : Section). FitBlocks k (tally_in n y)) x logs (subst (λ es. FitBlocks k (tally n es)) (sym s.0.entries_are) here) (fit_all told files k n logs cores s.1 (λ i d l. within (suc i) d (omega (arith, l))))
 
 pub record Ended (told : Bool) (files : Files) (lines : List Line) (logs : List Section) (cores : List CoreView) (a : ClientView) : Type 0 where
   pub done : IsDone told files a.book a.line a.stage
   pub agrees : Agrees lines a
   pub tallied : IsTallied a.book a.line Rest (total a.book.number cores)
-  pub sections : AreSections logs cores
+  pub sections : AreSections told files logs cores
 
 permitted_part : (told : Bool) (files : Files) (lines : List Line) (logs : List Section) (cores : List CoreView) (a : ClientView) → Ended told files lines logs cores a →
     ArePermitted told files (asked a.book.number lines) a.book.replies 0 a.line.faults
@@ -171,8 +183,8 @@ calls_part : (told : Bool) (files : Files) (lines : List Line) (logs : List Sect
     AreItsCalls a.book.number (asked a.book.number lines) a.book.replies logs 0 a.line.calls
 calls_part told files lines logs cores a e =
     let n = a.book.number in
-    let landed = over_total (λ t. t.landed) refl (λ x y. refl) n logs cores e.sections in let faults = over_total (λ t. t.faults) refl (λ x y. refl) n logs cores e.sections in
-    let directs = over_total (λ t. t.directs) refl (λ x y. refl) n logs cores e.sections in let wants = over_total (λ t. t.wants) refl (λ x y. refl) n logs cores e.sections in
+    let landed = over_total told files (λ t. t.landed) refl (λ x y. refl) n logs cores e.sections in let faults = over_total told files (λ t. t.faults) refl (λ x y. refl) n logs cores e.sections in
+    let directs = over_total told files (λ t. t.directs) refl (λ x y. refl) n logs cores e.sections in let wants = over_total told files (λ t. t.wants) refl (λ x y. refl) n logs cores e.sections in
     let same = ap (λ ls. stats ls a.book.replies) e.agrees.same in
     record {
       least = λ low. let m = e.tallied.least low in omega (arith, m, landed, faults, directs, same);
@@ -183,7 +195,7 @@ failed_part : (told : Bool) (files : Files) (lines : List Line) (logs : List Sec
     AreItsFailures a.book.number (asked a.book.number lines) a.book.replies logs 0 a.line.faults
 failed_part told files lines logs cores a e =
     let n = a.book.number in
-    let faults = over_total (λ t. t.faults) refl (λ x y. refl) n logs cores e.sections in let wants = over_total (λ t. t.wants) refl (λ x y. refl) n logs cores e.sections in
+    let faults = over_total told files (λ t. t.faults) refl (λ x y. refl) n logs cores e.sections in let wants = over_total told files (λ t. t.wants) refl (λ x y. refl) n logs cores e.sections in
     let same = ap (λ ls. lost ls a.book.replies) e.agrees.same in
     record {
       faults = subst (λ m. RoseBy 0 m a.line.faults) (sym faults) e.tallied.faults;
@@ -194,14 +206,14 @@ served_part : (told : Bool) (files : Files) (k : ℕ) (lines : List Line) (logs 
     ((i : ℕ) (d : CoreView) → i < length cores → IsWithin no_shares k (tally a.book.number (get_or cores i d).entries)) → IsServed k a.book.number a.book.replies logs
 served_part told files k lines logs cores a e within =
     let n = a.book.number in
-    let served = over_total (λ t. t.served) refl (λ x y. refl) n logs cores e.sections in let opened = over_total (λ t. t.opened) refl (λ x y. refl) n logs cores e.sections in
-    let hit = over_total (λ t. t.hit) refl (λ x y. refl) n logs cores e.sections in let missed = over_total (λ t. t.missed) refl (λ x y. refl) n logs cores e.sections in
-    let bypassed = over_total (λ t. t.bypassed) refl (λ x y. refl) n logs cores e.sections in
+    let served = over_total told files (λ t. t.served) refl (λ x y. refl) n logs cores e.sections in let opened = over_total told files (λ t. t.opened) refl (λ x y. refl) n logs cores e.sections in
+    let hit = over_total told files (λ t. t.hit) refl (λ x y. refl) n logs cores e.sections in let missed = over_total told files (λ t. t.missed) refl (λ x y. refl) n logs cores e.sections in
+    let bypassed = over_total told files (λ t. t.bypassed) refl (λ x y. refl) n logs cores e.sections in
     record {
       served = served ∙ e.tallied.served;
       bytes = let m = e.tallied.read in omega (arith, m, hit, missed, bypassed);
       opened = opened ∙ e.tallied.opened;
-      blocks = fit_all k n logs cores e.sections within;
+      blocks = fit_all told files k n logs cores e.sections within;
     }
 
 -- ---- the whole
@@ -211,11 +223,11 @@ no_clients lines clients n is none j d lj =
     let a = agrees lines clients j d is lj in
     ne_eqb n (get_or clients j d).book.number (λ e. let empty = ap length (ap (λ m. asked m lines) (sym e) ∙ none) in let some = a.some in absurd (omega (arith, some, empty)))
 
-section_all : (P : Section → Type 0) (logs : List Section) (cores : List CoreView) → AreSections logs cores → ((i : ℕ) (d : Section) → i < length logs → i < length cores → IsSection (get_or logs i d) (get_or cores i no_core) → P (get_or logs i d)) → All P logs
-section_all P logs cores s h i d l = let long = sections_long logs cores s in h i d l (omega (arith, l, long)) (section_at logs cores i d no_core s l)
+section_all : (told : Bool) (files : Files) (P : Section → Type 0) (logs : List Section) (cores : List CoreView) → AreSections told files logs cores → ((i : ℕ) (d : Section) → i < length logs → i < length cores → IsSection told files (get_or logs i d) (get_or cores i no_core) → P (get_or logs i d)) → All P logs
+section_all told files P logs cores s h i d l = let long = sections_long told files logs cores s in h i d l (omega (arith, l, long)) (section_at told files logs cores i d no_core s l)
 
 pub caused : (told : Bool) (files : Files) (k : ℕ) (lines : List Line) (clients : List ClientView) (cores : List CoreView) (logs : List Section) → IsScene k clients cores →
-    ((j : ℕ) (d : ClientView) → j < length clients → IsDone told files (get_or clients j d).book (get_or clients j d).line (get_or clients j d).stage) → map who clients ≡ asked_by lines → AreSections logs cores →
+    ((j : ℕ) (d : ClientView) → j < length clients → IsDone told files (get_or clients j d).book (get_or clients j d).line (get_or clients j d).stage) → map who clients ≡ asked_by lines → AreSections told files logs cores →
     IsCausedReport told files k lines nothing_spent (spent_by (map row_of clients)) (record { clients = map told_of clients; logs = logs })
 caused told files k lines clients cores logs s done is sections =
     let spent : (j : ℕ) → j < length clients → spent_by (map row_of clients) (get_or clients j nobody).book.number ≡ ((get_or clients j nobody).line.calls, (get_or clients j nobody).line.faults) =
@@ -226,7 +238,7 @@ caused told files k lines clients cores logs s done is sections =
       tallied = subst (λ st. IsTallied (get_or clients j nobody).book (get_or clients j nobody).line st (total (get_or clients j nobody).book.number cores)) (done j nobody l).stage_is (s.actors j nobody l).tallied;
       sections = sections;
     } in
-    let long = sections_long logs cores sections in
+    let long = sections_long told files logs cores sections in
     record {
       clients = record {
         numbers = numbers_are lines clients is;
@@ -235,12 +247,13 @@ caused told files k lines clients cores logs s done is sections =
       permitted = all_map (λ (t : Told). ArePermitted told files (asked t.number lines) t.replies (nothing_spent t.number).1 (spent_by (map row_of clients) t.number).1) told_of clients nobody
           (λ j l. subst (λ (x : ℕ × ℕ). ArePermitted told files (asked (get_or clients j nobody).book.number lines) (get_or clients j nobody).book.replies 0 x.1) (sym (spent j l)) (permitted_part told files lines logs cores (get_or clients j nobody) (ended j l)));
       complete = record {
-        complete = section_all (λ x. IsComplete x.log.first x.log.entries) logs cores sections (λ i d l m x. rw (x.first_is, x.entries_are) x.complete);
-        paths = λ i j d lt l e.
+        complete = section_all told files (λ x. IsComplete x.log.first x.log.entries) logs cores sections (λ i d l m x. rw (x.first_is, x.entries_are) x.complete);
+        paths = λ i j d lt l ci cj e.
             let li : i < length cores = omega (arith, lt, l, long) in let lj : j < length cores = omega (arith, l, long) in
-            let a = section_at logs cores i d no_core sections (omega (arith, lt, l)) in let b = section_at logs cores j d no_core sections l in
-            let same = s.paths i j no_core li lj (sym a.path_is ∙ e ∙ b.path_is) in absurd (omega (arith, lt, same));
-        starts = section_all (λ x. StartsEmpty x.log.first) logs cores sections (λ i d l m x. let c = s.places i no_core m in starts_empty _ (get_or logs i d).log.first (x.first_is ∙ c.start));
+            let a = section_at told files logs cores i d no_core sections (omega (arith, lt, l)) in let b = section_at told files logs cores j d no_core sections l in
+            let same = s.paths i j no_core li lj (subst IsCached a.first_is ci) (subst IsCached b.first_is cj) (sym a.path_is ∙ e ∙ b.path_is) in absurd (omega (arith, lt, same));
+        starts = section_all told files (λ x. StartsRight told files k x.path x.log.first) logs cores sections
+            (λ i d l m x. let c = s.places i no_core m in starts_right told files k (get_or logs i d).path (get_or logs i d).log.first (get_or cores i no_core) x.path_is x.sized (x.first_is ∙ c.start));
       };
       calls = all_map (λ (t : Told). AreItsCalls t.number (asked t.number lines) t.replies logs (nothing_spent t.number).0 (spent_by (map row_of clients) t.number).0) told_of clients nobody
           (λ j l. subst (λ (x : ℕ × ℕ). AreItsCalls (get_or clients j nobody).book.number (asked (get_or clients j nobody).book.number lines) (get_or clients j nobody).book.replies logs 0 x.0) (sym (spent j l)) (calls_part told files lines logs cores (get_or clients j nobody) (ended j l)));
@@ -252,13 +265,13 @@ caused told files k lines clients cores logs s done is sections =
           (λ j l. subst (λ (x : ℕ × ℕ). AreItsFailures (get_or clients j nobody).book.number (asked (get_or clients j nobody).book.number lines) (get_or clients j nobody).book.replies logs 0 x.1) (sym (spent j l)) (failed_part told files lines logs cores (get_or clients j nobody) (ended j l)));
       others = λ n none. record {
         spent = no_row clients n (λ i d l. subst (λ m. (n == m) ≡ false) (sym (done i d l).number) (no_clients lines clients n is none i d l));
-        logged = section_all (λ x. tally_in n x ≡ nothing) logs cores sections (λ i d l m x. ap (tally n) x.entries_are ∙ s.strangers n (no_clients lines clients n is none) i no_core m);
+        logged = section_all told files (λ x. tally_in n x ≡ nothing) logs cores sections (λ i d l m x. ap (tally n) x.entries_are ∙ s.strangers n (no_clients lines clients n is none) i no_core m);
       };
     }
 
 -- a section more
-pub sections_push : (logs : List Section) (cores : List CoreView) (x : Section) (c : CoreView) → AreSections logs cores → IsSection x c → AreSections (logs ++ x ∷ []) (cores ++ c ∷ [])
-sections_push [] [] x c s one = (one, tt)
-sections_push [] (e ∷ cores) x c s one = absurd s
-sections_push (y ∷ logs) [] x c s one = absurd s
-sections_push (y ∷ logs) (e ∷ cores) x c s one = (s.0, sections_push logs cores x c s.1 one)
+pub sections_push : (told : Bool) (files : Files) (logs : List Section) (cores : List CoreView) (x : Section) (c : CoreView) → AreSections told files logs cores → IsSection told files x c → AreSections told files (logs ++ x ∷ []) (cores ++ c ∷ [])
+sections_push told files [] [] x c s one = (one, tt)
+sections_push told files [] (e ∷ cores) x c s one = absurd s
+sections_push told files (y ∷ logs) [] x c s one = absurd s
+sections_push told files (y ∷ logs) (e ∷ cores) x c s one = (s.0, sections_push told files logs cores x c s.1 one)

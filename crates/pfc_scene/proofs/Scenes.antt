@@ -1,6 +1,8 @@
 -- What a step keeps of the scene.
 use Rattle.std.proofs.Common.{◌≡◌, ◌≢◌, ◌⊎◌, inl, inr, ⊎_elim, ℕ, zero, suc, ◌+◌, ◌<◌, ◌≤◌, List, [], ◌∷◌, ◌++◌, length, get_or, set, sum_by, refl, subst, sym, ap, ◌∙◌, arith, Bool, true, false, ◌==◌, ne_eqb}
-use Rattle.std.specs.Prelude.{replicate, None}
+use Rattle.std.specs.Prelude.{replicate, Option, Some, None}
+use Rattle.pfc_log.specs.declared.entry.Uncached.{Uncached}
+use Rattle.pfc_log.specs.Uncaching.{cause_of}
 use Rattle.pfc_log.specs.declared.entry.Entry.{Entry}
 use Rattle.pfc_core.specs.LineView.{LineView}
 use Rattle.pfc_actor.specs.Books.{BookView, weight_in, open_weight}
@@ -18,7 +20,8 @@ use Rattle.pfc_actor.specs.StageView.{StageView, Rest}
 use Rattle.pfc_actor.specs.Stages.{Shares, shares, no_shares, stage_weight}
 use Rattle.pfc_actor.specs.Steps.{IsTallied, IsWithin, Shrinks, Knows, Own, Step}
 use Rattle.pfc_actor.specs.Clients.{ClientView}
-use Rattle.pfc_scene.specs.Scenes.{lists, total, IsCore, IsActor, IsActorAs, IsScene}
+use Rattle.pfc_log.specs.Lawful.{IsCached}
+use Rattle.pfc_scene.specs.Scenes.{lists, total, start_for, start_of, IsAlone, IsCore, IsActor, IsActorAs, IsScene}
 use Rattle.pfc_actor.specs.Clients.{holds, IsFresh, Moves}
 use Rattle.pfc_log.proofs.Places.{by_bool}
 use Rattle.pfc_core.proofs.Weights.{same_instance, unseen}
@@ -104,7 +107,7 @@ placed k cores i c c2 places li ec home own j d lj = let long = length-set cores
       instance_is = ap (λ (v : CoreView). v.instance) home ∙ was.instance_is ∙ sym e;
       own = own;
       block_size_is = ap (λ (v : CoreView). v.block_size) home ∙ was.block_size_is;
-      start = ap (λ (v : CoreView). v.first) home ∙ was.start ∙ ap (λ (v : CoreView). Stored (replicate (count_of v.size k) false)) (sym home);
+      start = ap (λ (v : CoreView). v.first) home ∙ was.start ∙ ap (λ (v : CoreView). start_of v.path (count_of v.size k)) (sym home);
     }))
     (λ n. subst (IsCore k j) (sym (get_or-set_other cores i j c2 d n)) (places j d (omega (arith, lj, long))))
 
@@ -116,12 +119,18 @@ same_rows f xs i x y li ex same j d lj =
     ap f at ∙ same ∙ ap f (ex ∙ get_or_default xs i x d li ∙ ap (λ n. get_or xs n d) (sym e)))
     (λ n. ap f (get_or-set_other xs i j y d n))
 
-one_path : (cores : List CoreView) (i : ℕ) (c c2 : CoreView) → ((x y : ℕ) (d : CoreView) → x < length cores → y < length cores → (get_or cores x d).path ≡ (get_or cores y d).path → x ≡ y) →
-    i < length cores → c ≡ get_or cores i c → c2.path ≡ c.path → (x y : ℕ) (d : CoreView) → x < length (set cores i c2) → y < length (set cores i c2) → (get_or (set cores i c2) x d).path ≡ (get_or (set cores i c2) y d).path → x ≡ y
-one_path cores i c c2 paths li ec same x y d lx ly e =
+-- what a row of a list has it has where one element is replaced by one of the same
+row_has : {X : Type 0} {Y : Type 0} (P : Y → Type 0) (f : X → Y) (xs : List X) (i : ℕ) (x y : X) → i < length xs → x ≡ get_or xs i x → f y ≡ f x → (j : ℕ) (d : X) → j < length xs → P (f (get_or (set xs i y) j d)) → P (f (get_or xs j d))
+row_has P f xs i x y li ex same j d lj h = subst P (same_rows f xs i x y li ex same j d lj) h
+
+one_path : (cores : List CoreView) (i : ℕ) (c c2 : CoreView) → ((x y : ℕ) (d : CoreView) → x < length cores → y < length cores → IsCached (get_or cores x d).first → IsCached (get_or cores y d).first → (get_or cores x d).path ≡ (get_or cores y d).path → x ≡ y) →
+    i < length cores → c ≡ get_or cores i c → c2.path ≡ c.path → c2.first ≡ c.first → (x y : ℕ) (d : CoreView) → x < length (set cores i c2) → y < length (set cores i c2) →
+    IsCached (get_or (set cores i c2) x d).first → IsCached (get_or (set cores i c2) y d).first → (get_or (set cores i c2) x d).path ≡ (get_or (set cores i c2) y d).path → x ≡ y
+one_path cores i c c2 paths li ec same begins x y d lx ly cx cy e =
     let long = length-set cores i c2 in
     let lx2 : x < length cores = omega (arith, lx, long) in let ly2 : y < length cores = omega (arith, ly, long) in
-    paths x y d lx2 ly2 (sym (same_rows (λ (v : CoreView). v.path) cores i c c2 li ec same x d lx2) ∙ e ∙ same_rows (λ (v : CoreView). v.path) cores i c c2 li ec same y d ly2)
+    paths x y d lx2 ly2 (row_has IsCached (λ (v : CoreView). v.first) cores i c c2 li ec begins x d lx2 cx) (row_has IsCached (λ (v : CoreView). v.first) cores i c c2 li ec begins y d ly2 cy)
+    (sym (same_rows (λ (v : CoreView). v.path) cores i c c2 li ec same x d lx2) ∙ e ∙ same_rows (λ (v : CoreView). v.path) cores i c c2 li ec same y d ly2)
 
 one_number : (clients : List ClientView) (j : ℕ) (a a2 : ClientView) → ((x y : ℕ) (d : ClientView) → x < length clients → y < length clients → (get_or clients x d).book.number ≡ (get_or clients y d).book.number → x ≡ y) →
     j < length clients → a ≡ get_or clients j a → a2.book.number ≡ a.book.number → (x y : ℕ) (d : ClientView) → x < length (set clients j a2) → y < length (set clients j a2) →
@@ -196,7 +205,7 @@ stepped k clients cores j i a a2 c c2 s lj li ea ec st own = record {
       (other_actor cores i (get_or clients x d) c c2 li ec (ap (λ (v : CoreView). v.block_size) st.home) (st.others (get_or clients x d).book.number number) (s.actors x d lx2)));
   numbers = one_number clients j a a2 s.numbers lj ea st.number;
   places = placed k cores i c c2 s.places li ec st.home own;
-  paths = one_path cores i c c2 s.paths li ec (ap (λ (v : CoreView). v.path) st.home);
+  paths = one_path cores i c c2 s.paths li ec (ap (λ (v : CoreView). v.path) st.home) (ap (λ (v : CoreView). v.first) st.home);
   strangers = λ n none.
       let long = length-set clients j a2 in
       let none2 : (x : ℕ) (d : ClientView) → x < length clients → (n == (get_or clients x d).book.number) ≡ false =
@@ -244,10 +253,18 @@ nothing_within k s none = rw none (record { hit = omega arith; missed = omega ar
 pub at_end : {C : Type 0} (cs : List C) (c d : C) (x : ℕ) → x < length (cs ++ c ∷ []) → length cs ≤ x → get_or (cs ++ c ∷ []) x d ≡ c
 at_end cs c d x lx far = let long = length_push cs c in let e : x ≡ length cs = omega (arith, lx, long, far) in subst (λ y. get_or (cs ++ c ∷ []) y d ≡ c) (sym e) (get_or_push cs c d (length cs) refl)
 
--- a core more, of a path that has none
+-- a file whose log starts with a store is cached
+cached_for : (cause : Option Uncached) (n : ℕ) → IsCached (start_for cause n) → cause ≡ None
+cached_for None n h = refl
+cached_for (Some why) n h = absurd h
+
+cached_cause : (path : List ℕ) (n : ℕ) → IsCached (start_of path n) → cause_of path n ≡ None
+cached_cause path n h = cached_for (cause_of path n) n h
+
+-- a core more, of a path that has none that is cached
 pub made : (k : ℕ) (clients : List ClientView) (cores : List CoreView) (c : CoreView) → IsScene k clients cores → IsCore k (length cores) c → c.entries ≡ [] → c.out ≡ [] →
-    ((i : ℕ) (d : CoreView) → i < length cores → (get_or cores i d).path ≡ c.path → ⊥) → IsScene k clients (cores ++ c ∷ [])
-made k clients cores c s core entries out other = record {
+    IsAlone cores c.path (count_of c.size k) → IsScene k clients (cores ++ c ∷ [])
+made k clients cores c s core entries out alone = let other = λ (cached : IsCached c.first). alone (cached_cause c.path (count_of c.size k) (subst IsCached core.start cached)) in record {
   least = s.least;
   most = s.most;
   tokens = λ w. let t = s.tokens w in let more = sum_by_push (lists w) cores c in let none = ap (sum_by w) out in omega (arith, t, more, none);
@@ -269,14 +286,17 @@ made k clients cores c s core entries out other = record {
       (λ far. let long = length_push cores c in let e : x ≡ length cores = omega (arith, lx, long, far) in
       subst (IsCore k x) (sym (at_end cores c d x lx far)) (subst (λ y. IsCore k y c) (sym e) core))
       (below_or x (length cores));
-  paths = λ x y d lx ly e. let long = length_push cores c in
+  paths = λ x y d lx ly cx cy e. let long = length_push cores c in
       ⊎_elim
-      (λ l. ⊎_elim
-      (λ m. s.paths x y d l m (sym (ap (λ (v : CoreView). v.path) (get_or_append_left cores (c ∷ []) d x l)) ∙ e ∙ ap (λ (v : CoreView). v.path) (get_or_append_left cores (c ∷ []) d y m)))
-      (λ far. absurd (other x d l (sym (ap (λ (v : CoreView). v.path) (get_or_append_left cores (c ∷ []) d x l)) ∙ e ∙ ap (λ (v : CoreView). v.path) (at_end cores c d y ly far))))
+      (λ l. let left = get_or_append_left cores (c ∷ []) d x l in let kept = subst (λ (v : CoreView). IsCached v.first) left cx in
+      ⊎_elim
+      (λ m. let right = get_or_append_left cores (c ∷ []) d y m in
+      s.paths x y d l m kept (subst (λ (v : CoreView). IsCached v.first) right cy) (sym (ap (λ (v : CoreView). v.path) left) ∙ e ∙ ap (λ (v : CoreView). v.path) right))
+      (λ far. let last = at_end cores c d y ly far in absurd (other (subst (λ (v : CoreView). IsCached v.first) last cy) x d l kept (sym (ap (λ (v : CoreView). v.path) left) ∙ e ∙ ap (λ (v : CoreView). v.path) last)))
       (below_or y (length cores)))
-      (λ far. ⊎_elim
-      (λ m. absurd (other y d m (sym (ap (λ (v : CoreView). v.path) (get_or_append_left cores (c ∷ []) d y m)) ∙ sym e ∙ ap (λ (v : CoreView). v.path) (at_end cores c d x lx far))))
+      (λ far. let last = at_end cores c d x lx far in ⊎_elim
+      (λ m. let right = get_or_append_left cores (c ∷ []) d y m in
+      absurd (other (subst (λ (v : CoreView). IsCached v.first) last cx) y d m (subst (λ (v : CoreView). IsCached v.first) right cy) (sym (ap (λ (v : CoreView). v.path) right) ∙ sym e ∙ ap (λ (v : CoreView). v.path) last)))
       (λ far2. omega (arith, lx, ly, long, far, far2))
       (below_or y (length cores)))
       (below_or x (length cores));
@@ -307,7 +327,7 @@ abbrev pub nobody : ClientView
 nobody = record { book = record { number = 0; asked = []; replies = []; stays = []; shut = false }; line = record { number = 0; calls = 0; faults = 0 }; stage = Rest }
 
 abbrev pub no_core : CoreView
-no_core = record { instance = 0; path = []; size = 0; block_size = 0; first = Stored []; entries = []; out = [] }
+no_core = record { instance = 0; path = []; size = 0; block_size = 0; first = Stored []; entries = []; out = []; stored = []; durable = [] }
 
 -- the scene at the start
 pub begun : (k : ℕ) (clients : List ClientView) → 4096 ≤ k → k ≤ 16777216 → ((j : ℕ) (d : ClientView) → j < length clients → (n : ℕ) × IsFresh n (get_or clients j d)) →
@@ -319,7 +339,7 @@ begun k clients least most fresh numbers = record {
   actors = λ j d l. let f = fresh j d l in fresh_actor f.0 (get_or clients j d) f.1;
   numbers = numbers;
   places = λ i d l. absurd (omega (arith, l));
-  paths = λ i j d l m e. absurd (omega (arith, l));
+  paths = λ i j d l m x y e. absurd (omega (arith, l));
   strangers = λ n none i d l. absurd (omega (arith, l));
 }
 

@@ -1,6 +1,7 @@
 -- What is left of clients and cores at the end of a run.
-use Rattle.std.specs.Prelude.{◌≡◌, ℕ, List, [], ◌∷◌, ◌++◌, map, replicate, None, false}
+use Rattle.std.specs.Prelude.{◌≡◌, ℕ, Bool, List, [], ◌∷◌, ◌++◌, map, replicate, None, false}
 use Rattle.pfc_actor.specs.Books.{BookView}
+use Rattle.pfc_world.specs.Files.{Files, HasSize}
 use Rattle.pfc_log.specs.Lawful.{IsComplete}
 use Rattle.pfc_core.specs.View.{CoreView}
 use Rattle.pfc_report.specs.declared.report.Told.{Told}
@@ -8,19 +9,20 @@ use Rattle.pfc_report.specs.declared.report.Section.{Section}
 use Rattle.pfc_report.specs.Schedule.{Line, asked, asked_clients}
 use Rattle.pfc_actor.specs.Clients.{ClientView}
 
--- the section of a core, whose log is complete
-pub record IsSection (x : Section) (c : CoreView) : Type 0 where
+-- the section of a core, whose log is complete; where the world is told the core has the size of its file
+pub record IsSection (told : Bool) (files : Files) (x : Section) (c : CoreView) : Type 0 where
   pub path_is : x.path ≡ c.path
   pub first_is : x.log.first ≡ c.first
   pub entries_are : x.log.entries ≡ c.entries
   pub complete : IsComplete c.first c.entries
+  pub sized : HasSize told files c.path c.size
 
 -- one for each core, in order
-abbrev pub AreSections : List Section → List CoreView → Type 0
-AreSections [] [] = Unit {0}
-AreSections [] (c ∷ cores) = ⊥
-AreSections (x ∷ logs) [] = ⊥
-AreSections (x ∷ logs) (c ∷ cores) = IsSection x c × AreSections logs cores
+abbrev pub AreSections : Bool → Files → List Section → List CoreView → Type 0
+AreSections told files [] [] = Unit {0}
+AreSections told files [] (c ∷ cores) = ⊥
+AreSections told files (x ∷ logs) [] = ⊥
+AreSections told files (x ∷ logs) (c ∷ cores) = IsSection told files x c × AreSections told files logs cores
 
 -- the number of a client's line, its calls and its faults
 abbrev pub row_of : ClientView → ℕ × ℕ × ℕ

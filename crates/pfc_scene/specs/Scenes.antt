@@ -1,7 +1,12 @@
 -- Clients and cores together.
-use Rattle.std.specs.Prelude.{◌≡◌, ℕ, ◌<◌, ◌≤◌, ◌==◌, ◌++◌, if◌then◌else◌, false, List, [], ◌∷◌, length, replicate, sum_by, slice_index_or}
+use Rattle.std.specs.Prelude.{◌≡◌, ℕ, ◌<◌, ◌≤◌, ◌==◌, ◌++◌, if◌then◌else◌, false, List, [], ◌∷◌, length, replicate, sum_by, slice_index_or, Option, Some, None}
 use Rattle.pfc_base.specs.Block.{count_of}
+use Rattle.pfc_log.specs.declared.start.Start.{Start}
 use Rattle.pfc_log.specs.declared.start.Start.TheVariants.{Stored}
+use Rattle.pfc_log.specs.declared.start.Start.TheVariants as start
+use Rattle.pfc_log.specs.declared.entry.Uncached.{Uncached}
+use Rattle.pfc_log.specs.Lawful.{IsCached}
+use Rattle.pfc_log.specs.Uncaching.{cause_of}
 use Rattle.pfc_log.specs.Tallies.{Tally, tally, together, nothing}
 use Rattle.pfc_core.specs.Marks.{Mark}
 use Rattle.pfc_core.specs.Calls.{foreign}
@@ -24,12 +29,20 @@ abbrev pub total : ℕ → List CoreView → Tally
 total n [] = nothing
 total n (c ∷ cs) = together (tally n c.entries) (total n cs)
 
+-- how a log starts, of a file with so many blocks: with a store that has none of them, or without one for this cause
+abbrev pub start_for : Option Uncached → ℕ → Start
+start_for None blocks = Stored (replicate blocks false)
+start_for (Some why) blocks = start.Uncached why
+
+abbrev pub start_of : List ℕ → ℕ → Start
+start_of path blocks = start_for (cause_of path blocks) blocks
+
 -- the core at place i: its number is its place, all that it gave out is its own, and its file had no block on disk
 pub record IsCore (k i : ℕ) (c : CoreView) : Type 0 where
   pub instance_is : c.instance ≡ i
   pub own : sum_by (foreign c) c.out ≡ 0
   pub block_size_is : c.block_size ≡ k
-  pub start : c.first ≡ Stored (replicate (count_of c.size k) false)
+  pub start : c.first ≡ start_of c.path (count_of c.size k)
 
 -- the client's replies, line and work are what the logs say of it, together and one by one
 pub record IsActorAs (n : ℕ) (cores : List CoreView) (a : ClientView) : Type 0 where
@@ -39,7 +52,8 @@ pub record IsActorAs (n : ℕ) (cores : List CoreView) (a : ClientView) : Type 0
 abbrev pub IsActor : List CoreView → ClientView → Type 0
 IsActor cores a = IsActorAs a.book.number cores a
 
--- The clients hold what the cores gave out. Each is one, and each path has one core. Nobody else stands in a log.
+-- The clients hold what the cores gave out. Each is one, and each path has at most one core that is cached. Nobody else stands in a
+-- log.
 pub record IsScene (k : ℕ) (clients : List ClientView) (cores : List CoreView) : Type 0 where
   pub least : 4096 ≤ k
   pub most : k ≤ 16777216
@@ -47,7 +61,7 @@ pub record IsScene (k : ℕ) (clients : List ClientView) (cores : List CoreView)
   pub actors : (j : ℕ) (d : ClientView) → j < length clients → IsActor cores (slice_index_or clients j d)
   pub numbers : (i j : ℕ) (d : ClientView) → i < length clients → j < length clients → (slice_index_or clients i d).book.number ≡ (slice_index_or clients j d).book.number → i ≡ j
   pub places : (i : ℕ) (d : CoreView) → i < length cores → IsCore k i (slice_index_or cores i d)
-  pub paths : (i j : ℕ) (d : CoreView) → i < length cores → j < length cores → (slice_index_or cores i d).path ≡ (slice_index_or cores j d).path → i ≡ j
+  pub paths : (i j : ℕ) (d : CoreView) → i < length cores → j < length cores → IsCached (slice_index_or cores i d).first → IsCached (slice_index_or cores j d).first → (slice_index_or cores i d).path ≡ (slice_index_or cores j d).path → i ≡ j
   pub strangers : (n : ℕ) → ((j : ℕ) (d : ClientView) → j < length clients → (n == (slice_index_or clients j d).book.number) ≡ false) → (i : ℕ) (d : CoreView) → i < length cores → tally n (slice_index_or cores i d).entries ≡ nothing
 
 -- no two clients have one number
@@ -62,12 +76,17 @@ who a = (a.book.number, a.book.asked)
 abbrev pub asked_more : ℕ → List ℕ → ℕ × List (List ℕ) → ℕ × List (List ℕ)
 asked_more n line x = if x.0 == n then (x.0, x.1 ++ line ∷ []) else x
 
+-- the file isn't cached, or no cached core is of this path
+abbrev pub IsAlone : List CoreView → List ℕ → ℕ → Type 0
+IsAlone cores path blocks = cause_of path blocks ≡ None → (i : ℕ) (d : CoreView) → i < length cores → IsCached (slice_index_or cores i d).first → (slice_index_or cores i d).path ≡ path → ⊥
+
 -- a new core of this path behind the others
 pub record Makes (k : ℕ) (cores : List CoreView) (path : List ℕ) (after : List CoreView) : Type 0 where
   pub core : CoreView
   pub behind : after ≡ cores ++ core ∷ []
   pub right : IsCore k (length cores) core
   pub path_is : core.path ≡ path
+  pub alone : IsAlone cores path (count_of core.size k)
   pub entries : core.entries ≡ []
   pub out : core.out ≡ []
 

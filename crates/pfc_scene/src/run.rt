@@ -54,7 +54,7 @@ fn end_clients<W: World, O: Origin<W>>(
 
 /// Ends cores: the log of each, with its path.
 fn end_cores<W: World>(alloc: Global, cores: Vec<FileCore<W>>) -> Result<Vec<Section>, Memory>
-    ensures { IfOk result (λ logs. AreSections logs.items cores.items) }
+    ensures { IfOk result (λ logs. AreSections W.told W.files logs.items cores.items) }
 {
     let mut logs = Vec::with_capacity(alloc, cores.len())?;
     for core in cores {

@@ -1,23 +1,24 @@
 // Clients and the cores of their files, which step in turn.
-ghost use Rattle.std.specs.Prelude.{◌≡◌, ◌<◌, ◌≤◌, ◌+◌, ℕ, List, length, slice_index_or, IfSome, IfNone, OnOk, IfOk, IsTrue, true, false, ◌==◌, map};
+ghost use Rattle.std.specs.Prelude.{◌≡◌, ◌<◌, ◌≤◌, ◌+◌, ℕ, List, [], replicate, length, slice_index_or, IfSome, IfNone, OnOk, IfOk, IsTrue, true, false, ◌==◌, map};
 ghost use Rattle.pfc_core.specs.View.{CoreView};
 ghost use Rattle.pfc_actor.specs.Clients.{ClientView, IsDone, StepsAt};
 ghost use Rattle.pfc_actor.specs.Stages.{Here};
-ghost use Rattle.pfc_scene.specs.Scenes.{SceneView, IsScene, AreUnique, Makes, who, number_of, asked_more};
+ghost use Rattle.pfc_base.specs.Block.{count_of};
+ghost use Rattle.pfc_log.specs.Lawful.{IsCached};
+ghost use Rattle.pfc_core.specs.New.{IsNew};
+ghost use Rattle.pfc_scene.specs.Scenes.{SceneView, IsScene, IsCore, IsAlone, AreUnique, Makes, who, number_of, asked_more};
 ghost use Rattle.pfc_actor.specs.Clients.{IsFresh};
 
 use pfc_actor::{Client, Place, Wanted};
-use pfc_base::{Memory, Path, block_count};
+use pfc_base::{BlockSet, Memory, Path, block_count};
 use pfc_client::DESCRIPTORS;
 use pfc_core::FileCore;
-use pfc_world::{Origin, World};
+use pfc_log::uncached_cause;
+use pfc_world::{Known, Origin, World};
 use std::alloc::Global;
 use std::marker::Model;
 
-/// The most blocks of a file that is cached.
-const MOST_BLOCKS: u64 = 16777216;
-
-/// Clients, and a core for each path that any of them opened.
+/// Clients, and a core for each path that any of them opened, or for each open of a file that isn't cached.
 pub struct Scene<W: World, O: Origin<W>> {
     clients: Vec<Client<W, O>>,
     cores: Vec<FileCore<W>>,
@@ -34,17 +35,42 @@ impl<W: World, O: Origin<W>> Model for Scene<W, O> {
     ghost invariant = { λ s. IsScene s.block_size s.clients.items s.cores.items };
 }
 
-/// The core of a path.
+/// The core of a path that is cached.
 fn find_core<W: World>(cores: &[FileCore<W>], path: &Path) -> Option<usize>
     ensures some { IfSome result (λ i. (i < length cores.now) × ((d : CoreView) → (slice_index_or cores.now i d).path ≡ path.now)) }
-    ensures none { IfNone result ((i : ℕ) (d : CoreView) → i < length cores.now → (slice_index_or cores.now i d).path ≡ path.now → ⊥) }
+    ensures none { IfNone result ((i : ℕ) (d : CoreView) → i < length cores.now → IsCached (slice_index_or cores.now i d).first → (slice_index_or cores.now i d).path ≡ path.now → ⊥) }
 {
     for i in 0..cores.len() {
-        if cores[i].known().path() == path {
+        if is_cached_core(&cores[i], path) {
             return Some(i);
         }
     }
     None
+}
+
+/// Whether a core is of this path, and its file is cached.
+fn is_cached_core<W: World>(core: &FileCore<W>, path: &Path) -> bool
+    ensures yes { IsTrue result → core.now.path ≡ path.now }
+    ensures no { result ≡ false → IsCached core.now.first → core.now.path ≡ path.now → ⊥ }
+{
+    if core.uncached().is_some() {
+        return false;
+    }
+    core.known().path() == path
+}
+
+/// The place of the core of this number, if it is of this path.
+fn core_at<W: World>(cores: &[FileCore<W>], core: u64, path: &Path) -> Option<usize>
+    ensures { IfSome result (λ i. (i < length cores.now) × ((d : CoreView) → (slice_index_or cores.now i d).path ≡ path.now)) }
+{
+    if core >= cores.len() as u64 {
+        return None;
+    }
+    let i = core as usize;
+    if cores[i].known().path() != path {
+        return None;
+    }
+    Some(i)
 }
 
 /// The client of a number.
@@ -60,37 +86,85 @@ fn find_client<W: World, O: Origin<W>>(clients: &[Client<W, O>], number: u32) ->
     None
 }
 
-/// Makes a core of the file that a client opens, behind the others. It fails for want of memory, or where the file has too
-/// many blocks.
+/// A core of a file of which no block is on disk.
+fn empty_core<W: World>(
+    alloc: Global,
+    i: u64,
+    known: Known<W>,
+    block_size: u64,
+) -> Result<FileCore<W>, Memory>
+    requires least { 4096 ≤ block_size }
+    requires most { block_size ≤ 16777216 }
+    requires few { count_of known.size block_size ≤ 16777216 }
+    ensures { IfOk result (λ core. IsNew i known.path known.size block_size (replicate (count_of known.size block_size) false) core) }
+{
+    let count = block_count(known.size(), block_size) as u32;
+    let start = BlockSet::new(alloc, count)?;
+    FileCore::new(alloc, i, known, block_size, start)
+}
+
+/// A core of a file, which is cached unless its path or its size says otherwise.
+fn new_core<W: World>(
+    alloc: Global,
+    i: u64,
+    known: Known<W>,
+    block_size: u64,
+) -> Result<FileCore<W>, Memory>
+    requires least { 4096 ≤ block_size }
+    requires most { block_size ≤ 16777216 }
+    ensures core { IfOk result (λ core. IsCore block_size i core) }
+    ensures path { IfOk result (λ core. core.path ≡ known.path) }
+    ensures size { IfOk result (λ core. core.size ≡ known.size) }
+    ensures fresh { IfOk result (λ core. (core.entries ≡ []) × (core.out ≡ [])) }
+{
+    let blocks = block_count(known.size(), block_size);
+    match uncached_cause(known.path(), blocks) {
+        Some(why) => FileCore::direct_only(alloc, i, known, block_size, why),
+        None => empty_core(alloc, i, known, block_size),
+    }
+}
+
+/// Whether a core of a file may be made: the file isn't cached, or no cached core of it is there.
+fn is_alone<W: World>(cores: &[FileCore<W>], path: &Path, blocks: u64) -> bool
+    ensures { IsTrue result → IsAlone cores.now path.now blocks }
+{
+    if uncached_cause(path, blocks).is_some() {
+        return true;
+    }
+    find_core(cores, path).is_none()
+}
+
+/// Makes a core of the file that a client opens, behind the others, and gives its number. It fails for want of memory, and where
+/// there is a core already.
 fn make_core<W: World>(
     alloc: Global,
     cores: &mut Vec<FileCore<W>>,
     wanted: &Wanted<W>,
     block_size: u64,
-) -> bool
+) -> Option<u64>
     requires least { 4096 ≤ block_size }
     requires most { block_size ≤ 16777216 }
-    ensures yes { IsTrue result → Makes block_size cores.old.items wanted.now.path cores.new.items }
-    ensures no { result ≡ false → cores.new.items ≡ cores.old.items }
+    ensures some { IfSome result (λ i. Makes block_size cores.old.items wanted.now.path cores.new.items) }
+    ensures none { IfNone result (cores.new.items ≡ cores.old.items) }
 {
     let known = wanted.known();
-    if block_count(known.size(), block_size) > MOST_BLOCKS {
-        return false;
+    if !is_alone(cores, known.path(), block_count(known.size(), block_size)) {
+        return None;
     }
     if cores.reserve(1).is_err() {
-        return false;
+        return None;
     }
     let i = cores.len() as u64;
-    match FileCore::new(alloc, i, known, block_size) {
+    match new_core(alloc, i, known, block_size) {
         Ok(core) => {
             cores.push_reserved(core);
-            true
+            Some(i)
         }
-        Err(_) => false,
+        Err(_) => None,
     }
 }
 
-/// Whether a client makes a core of this path.
+/// Whether a client has a core of this path that it hasn't entered yet.
 fn is_made<W: World, O: Origin<W>>(clients: &[Client<W, O>], path: &Path) -> bool {
     for client in clients {
         if client.is_making(path) {
@@ -100,19 +174,38 @@ fn is_made<W: World, O: Origin<W>>(clients: &[Client<W, O>], path: &Path) -> boo
     false
 }
 
-/// How a client that wants a file opened goes on: it makes a core, or enters one, or waits for another client's.
-fn entrance<W: World, O: Origin<W>>(
+/// How an open goes on.
+enum Entrance {
+    /// Another client's open of the file has a core that it hasn't entered yet.
+    Waits,
+    /// There is a core of the file.
+    Joins,
+    /// A core is to be made.
+    Makes,
+}
+
+/// How the open of a file goes on. A file that isn't cached gets a core for each open.
+fn entrance_for<W: World, O: Origin<W>>(
     clients: &[Client<W, O>],
     cores: &[FileCore<W>],
-    path: &Path,
-) -> Option<bool> {
-    if find_core(cores, path).is_some() {
-        return Some(false);
+    wanted: &Wanted<W>,
+    block_size: u64,
+) -> Entrance
+    requires least { 0 < block_size }
+    requires most { block_size ≤ 16777216 }
+{
+    let known = wanted.known();
+    let path = known.path();
+    if uncached_cause(path, block_count(known.size(), block_size)).is_some() {
+        return Entrance::Makes;
     }
     if is_made(clients, path) {
-        return None;
+        return Entrance::Waits;
     }
-    Some(true)
+    if find_core(cores, path).is_some() {
+        return Entrance::Joins;
+    }
+    Entrance::Makes
 }
 
 impl<W: World, O: Origin<W>> Scene<W, O> {
@@ -159,51 +252,62 @@ impl<W: World, O: Origin<W>> Scene<W, O> {
         self.cores[i].own();
     }
 
-    /// The client at this place wants a file opened.
-    fn enter(&mut self, j: usize)
+    /// The client at this place, which wants a file opened, gets a core to enter.
+    fn enter(&mut self, alloc: Global, j: usize)
         requires { j < length self.old.clients }
         ensures same { map who self.new.clients ≡ map who self.old.clients }
         ensures length { length self.new.clients ≡ length self.old.clients }
         ensures block_size { self.new.block_size ≡ self.old.block_size }
     {
-        let Some(path) = self.clients[j].wanted() else {
+        let Some(wanted) = self.clients[j].wanted() else {
             return;
         };
-        let Some(makes) = entrance(&self.clients, &self.cores, path) else {
-            return;
-        };
-        self.clients[j].enter(makes);
+        match entrance_for(&self.clients, &self.cores, wanted, self.block_size) {
+            Entrance::Waits => (),
+            Entrance::Joins => self.clients[j].enter(None),
+            Entrance::Makes => self.make(alloc, j),
+        }
     }
 
-    /// The core of the file that the client at this place opens. It is made where there is none.
-    fn core_of(&mut self, alloc: Global, j: usize) -> Option<usize>
+    /// Makes a core for the client at this place.
+    fn make(&mut self, alloc: Global, j: usize)
         requires { j < length self.old.clients }
-        ensures low { IfSome result (λ i. i < length self.new.cores) }
-        ensures here { IfSome result (λ i. (d : ClientView) (e : CoreView) → Here (slice_index_or self.new.clients j d).book (slice_index_or self.new.clients j d).stage (slice_index_or self.new.cores i e)) }
-        ensures clients { self.new.clients ≡ self.old.clients }
+        ensures same { map who self.new.clients ≡ map who self.old.clients }
+        ensures length { length self.new.clients ≡ length self.old.clients }
         ensures block_size { self.new.block_size ≡ self.old.block_size }
+    {
+        let Some(wanted) = self.clients[j].wanted() else {
+            return;
+        };
+        match make_core(alloc, &mut self.cores, wanted, self.block_size) {
+            Some(core) => self.clients[j].enter(Some(core)),
+            None => self.clients[j].give_up(),
+        }
+    }
+
+    /// The core that the client at this place enters: the one that was made for its open, or else the cached one of its file.
+    fn core_of(&self, j: usize) -> Option<usize>
+        requires { j < length self.now.clients }
+        ensures low { IfSome result (λ i. i < length self.now.cores) }
+        ensures here { IfSome result (λ i. (d : ClientView) (e : CoreView) → Here (slice_index_or self.now.clients j d).book (slice_index_or self.now.clients j d).stage (slice_index_or self.now.cores i e)) }
     {
         let Some(wanted) = self.clients[j].entering() else {
             return None;
         };
-        if let Some(i) = find_core(&self.cores, wanted.path()) {
-            return Some(i);
+        match self.clients[j].made() {
+            Some(core) => core_at(&self.cores, core, wanted.path()),
+            None => find_core(&self.cores, wanted.path()),
         }
-        let i = self.cores.len();
-        if make_core(alloc, &mut self.cores, wanted, self.block_size) {
-            return Some(i);
-        }
-        None
     }
 
-    /// The client at this place makes a core of its file, or enters one.
+    /// The client at this place enters a core of its file.
     fn open(&mut self, alloc: Global, j: usize)
         requires { j < length self.old.clients }
         ensures same { map who self.new.clients ≡ map who self.old.clients }
         ensures length { length self.new.clients ≡ length self.old.clients }
         ensures block_size { self.new.block_size ≡ self.old.block_size }
     {
-        match self.core_of(alloc, j) {
+        match self.core_of(j) {
             Some(i) => self.step_at(alloc, j, i),
             None => self.clients[j].give_up(),
         }
@@ -218,7 +322,7 @@ impl<W: World, O: Origin<W>> Scene<W, O> {
     {
         match self.clients[j].place() {
             Place::Alone => self.clients[j].step_alone(),
-            Place::Wants => self.enter(j),
+            Place::Wants => self.enter(alloc, j),
             Place::Enters => self.open(alloc, j),
             Place::Core(i) => self.step_at(alloc, j, i as usize),
         }

@@ -5,14 +5,14 @@ ghost use Rattle.pfc_log.specs.declared.entry.Entry.{Entry};
 ghost use Rattle.pfc_log.specs.declared.entry.Entry.TheVariants.{Left};
 ghost use Rattle.pfc_world.specs.Files.{Holds};
 ghost use Rattle.pfc_core.specs.Calls.{Unpins, Strays};
-ghost use Rattle.pfc_core.specs.Finishes.{Ends, Finishes, Releases, ReleasesAll, served_entries};
+ghost use Rattle.pfc_core.specs.Finishes.{Ends, Finishes, Releases, ReleasesAll, ReleasesDisks, served_entries};
 ghost use Rattle.pfc_core.specs.Looks.{Looks, IfReady};
 ghost use Rattle.pfc_core.specs.Marks.{Mark, listed, sees};
 
 use super::FileCore;
 use crate::leave::leave_for;
 use crate::look::{Fate, Look, fate_of};
-use crate::token::{Pin, Reading, Strayed, is_of, stranger};
+use crate::token::{OnDisk, Pin, Reading, Strayed, is_of, stranger};
 use pfc_base::Part;
 use pfc_log::{Entry, Served, Way};
 use pfc_world::World;
@@ -53,26 +53,29 @@ impl<W: World> FileCore<W> {
         }
     }
 
-    /// Ends a read, with an entry where it brought data, and gives its pins back. Pins that the core doesn't know are dropped.
+    /// Ends a read, with an entry where it brought data, and gives back its pins and what it hasn't read from disk. Those that
+    /// the core doesn't know are dropped.
     pub fn finish(
         &mut self,
         reading: Reading<W>,
         pins: &mut Vec<Pin<W>>,
+        disks: &mut Vec<OnDisk<W>>,
         served: Option<Served>,
     ) -> Result<(), Strayed<Reading<W>>>
-        ensures ok { OnOk result (Finishes self.old reading pins.old.items served self.new) }
+        ensures ok { OnOk result (Finishes self.old reading pins.old.items disks.old.items served self.new) }
         ensures rest { OnOk result (self.new ≡ record self.old { entries = self.new.entries; out = self.new.out }) }
         // Where the core's list has them all, they are all taken out of it.
-        ensures known { OnOk result (((m : Mark) → sees m reading + listed m pins.old.items ≤ listed m self.old.out) → (w : Mark → ℕ) → sum_by w self.new.out + w reading + sum_by w pins.old.items ≡ sum_by w self.old.out) }
+        ensures known { OnOk result (((m : Mark) → sees m reading + listed m pins.old.items + listed m disks.old.items ≤ listed m self.old.out) → (w : Mark → ℕ) → sum_by w self.new.out + w reading + sum_by w pins.old.items + sum_by w disks.old.items ≡ sum_by w self.old.out) }
         // Beside the entry of the read only blocks leave.
         ensures entries { OnOk result ((w : Entry → ℕ) → ((i : ℕ) → w (Left i) ≡ 0) → sum_by w self.new.entries ≡ sum_by w self.old.entries + sum_by w (served_entries reading.client served)) }
-        ensures empty { OnOk result (pins.new.items ≡ []) }
+        ensures empty { OnOk result ((pins.new.items ≡ []) × (disks.new.items ≡ [])) }
         ensures strayed { IfErr result (λ s. Strays self.old reading reading s self.new) }
-        ensures kept { OnErr result (pins.new.items ≡ pins.old.items) }
+        ensures kept { OnErr result ((pins.new.items ≡ pins.old.items) × (disks.new.items ≡ disks.old.items)) }
     {
         self.end(reading, served)?;
         self.release_all(pins);
         pins.clear();
+        self.end_disks(disks);
         Ok(())
     }
 
@@ -108,6 +111,17 @@ impl<W: World> FileCore<W> {
             served,
         });
         Ok(())
+    }
+
+    fn end_disks(&mut self, disks: &mut Vec<OnDisk<W>>)
+        ensures disks { ReleasesDisks self.old disks.old.items self.new }
+        ensures empty { disks.new.items ≡ [] }
+    {
+        disks.reverse();
+        while let Some(disk) = disks.pop() {
+            let _ = self.release_disk(&disk);
+            disk.discard();
+        }
     }
 
     fn release_all(&mut self, pins: &[Pin<W>])

@@ -2,16 +2,16 @@
 ghost use Rattle.std.specs.Prelude.{◌≡◌, ◌+◌, ◌≤◌, ◌<◌, ℕ, [], ◌++◌, length, map, reverse, vec_capacity, OnOk, All, Some, IsTrue, ◌↔◌};
 ghost use Rattle.pfc_log.specs.declared.entry.Fell.TheVariants as fell;
 ghost use Rattle.pfc_world.specs.Files.{HasSize};
-ghost use Rattle.pfc_core.specs.Marks.{TicketKind, PinKind};
+ghost use Rattle.pfc_core.specs.Marks.{TicketKind, PinKind, DiskKind};
 ghost use Rattle.pfc_read.specs.OpView.{ToEnd};
-ghost use Rattle.pfc_read.specs.Segments.{pin_in};
+ghost use Rattle.pfc_read.specs.Segments.{pin_in, disk_in};
 ghost use Rattle.pfc_read.specs.Steps.{IsTokenOf};
 ghost use Rattle.pfc_read.specs.Ends.{Answers, EndsRead, GivesBack, op_len, served_in};
 
 use super::ReadOp;
 use crate::action::Answer;
-use crate::segment::Pending;
-use pfc_core::{FileCore, Pin, Reading, Strayed, Ticket};
+use crate::segment::{Found, Owed, Pending};
+use pfc_core::{FileCore, OnDisk, Pin, Reading, Strayed, Ticket};
 use pfc_log::{Fell, Served};
 use pfc_world::World;
 
@@ -27,6 +27,19 @@ fn gather<W: World>(mut pins: Vec<Pin<W>>, mut pendings: Vec<Pending<W>>) -> Vec
     pins
 }
 
+/// The rights to read from disk that weren't used.
+fn gather_disks<W: World>(mut unread: Vec<OnDisk<W>>, mut disks: Vec<Found<W>>) -> Vec<OnDisk<W>>
+    requires { length unread.items + length disks.items ≤ vec_capacity unread }
+    ensures { result.items ≡ unread.items ++ map disk_in (reverse disks.items) }
+{
+    while let Some(found) = disks.pop() {
+        let Found { disk, segment: _ } = found;
+        unread.push_reserved(disk);
+    }
+    disks.destroy_empty();
+    unread
+}
+
 /// Ends tickets that no core takes.
 fn discard_all<W: World>(mut tickets: Vec<Ticket<W>>) {
     while let Some(ticket) = tickets.pop() {
@@ -35,18 +48,38 @@ fn discard_all<W: World>(mut tickets: Vec<Ticket<W>>) {
     tickets.destroy_empty();
 }
 
-/// Ends a reading with its entry, and gives the pins back.
+/// Ends rights to read from disk that no core takes.
+fn discard_disks<W: World>(mut disks: Vec<OnDisk<W>>) {
+    while let Some(disk) = disks.pop() {
+        disk.discard();
+    }
+    disks.destroy_empty();
+}
+
+/// Ends leaves by which nothing is read.
+fn discard_owed<W: World>(mut owed: Vec<Owed<W>>) {
+    while let Some(one) = owed.pop() {
+        one.discard();
+    }
+    owed.destroy_empty();
+}
+
+/// Ends a reading with its entry, and gives back the pins and what wasn't read from disk.
 fn give_back<W: World>(
     core: &mut FileCore<W>,
     reading: Reading<W>,
     mut pins: Vec<Pin<W>>,
+    mut disks: Vec<OnDisk<W>>,
     served: Option<Served>,
 )
-    ensures { GivesBack core.old reading pins.items served core.new }
+    ensures { GivesBack core.old reading pins.items disks.items served core.new }
 {
-    match core.finish(reading, &mut pins, served) {
-        Ok(()) => {}
-        Err(Strayed { token, why: _ }) => token.discard(),
+    match core.finish(reading, &mut pins, &mut disks, served) {
+        Ok(()) => disks.destroy_empty(),
+        Err(Strayed { token, why: _ }) => {
+            token.discard();
+            discard_disks(disks);
+        }
     }
 }
 
@@ -55,6 +88,7 @@ impl<W: World> ReadOp<W> {
     pub fn keeps(&self)
         ensures tickets { All (IsTokenOf self.now.reading TicketKind) self.now.tickets }
         ensures pins { All (IsTokenOf self.now.reading PinKind) self.now.pins }
+        ensures disks { All (IsTokenOf self.now.reading DiskKind) self.now.disks }
         ensures least { 4096 ≤ self.now.reading.block_size }
         ensures most { self.now.reading.block_size ≤ 16777216 }
         ensures short { self.now.piece.len ≤ 16777216 }
@@ -82,6 +116,8 @@ impl<W: World> ReadOp<W> {
             tickets,
             pendings: _,
             pins: _,
+            disks,
+            unread,
             owed,
             hand: _,
             counts: _,
@@ -89,13 +125,13 @@ impl<W: World> ReadOp<W> {
             met: _,
         } = self;
         discard_all(tickets);
-        if let Some(owed) = owed {
-            owed.discard();
-        }
+        discard_disks(gather_disks(unread, disks));
+        discard_owed(owed);
         reading.discard();
     }
 
-    /// Ends the read: its reading and its pins go back to the core, with an entry of what it brought.
+    /// Ends the read: its reading, its pins and its rights to read from disk go back to the core, with an entry of what it
+    /// brought.
     pub fn finish(self, core: &mut FileCore<W>) -> Answer
         requires { self.given ≡ ToEnd }
         ensures answer { Answers W.told W.files self result }
@@ -109,6 +145,8 @@ impl<W: World> ReadOp<W> {
             tickets,
             pendings,
             pins,
+            disks,
+            unread,
             owed,
             hand: _,
             counts: _,
@@ -116,21 +154,20 @@ impl<W: World> ReadOp<W> {
             met,
         } = self;
         tickets.destroy_empty();
-        if let Some(owed) = owed {
-            owed.discard();
-        }
+        owed.destroy_empty();
         let pins = gather(pins, pendings);
+        let disks = gather_disks(unread, disks);
         match met {
             None => {
-                give_back(core, reading, pins, Some(served));
+                give_back(core, reading, pins, disks, Some(served));
                 Answer::Bytes { bytes, served }
             }
             Some(Fell::Fault) => {
-                give_back(core, reading, pins, None);
+                give_back(core, reading, pins, disks, None);
                 Answer::Fetch
             }
             Some(Fell::Memory) => {
-                give_back(core, reading, pins, None);
+                give_back(core, reading, pins, disks, None);
                 Answer::Memory
             }
         }

@@ -1,5 +1,5 @@
 // How the parts of a read come into its reply.
-ghost use Rattle.std.specs.Prelude.{◌≡◌, ◌+◌, ◌<◌, ◌^◌, OnOk, OnErr, Some};
+ghost use Rattle.std.specs.Prelude.{◌≡◌, ◌+◌, ◌++◌, ◌∷◌, [], ◌<◌, ◌^◌, OnOk, OnErr, vec_len, vec_capacity};
 ghost use Rattle.pfc_log.specs.declared.entry.Fell.TheVariants as fell;
 ghost use Rattle.pfc_world.specs.Counts.{HasCause, add_count};
 ghost use Rattle.pfc_read.specs.OpView.{Nothing, ToFill, ToLook, first_met};
@@ -16,13 +16,13 @@ use pfc_log::{Fell, Served};
 use pfc_world::{Fault, Origin, World};
 
 /// The bytes that came, with those of one part more.
-fn plus(served: Served, segment: Segment) -> Served
+pub(super) fn plus(served: Served, segment: Segment) -> Served
     requires { served.hit + served.missed + served.bypassed + segment.part.len < 2 ^ 64 }
     ensures { result ≡ with_part served segment.source segment.part.len }
 {
     let len = u64::from(segment.part.len);
     match segment.source {
-        Source::Memory => Served {
+        Source::Cache => Served {
             hit: served.hit + len,
             ..served
         },
@@ -37,17 +37,17 @@ fn plus(served: Served, segment: Segment) -> Served
     }
 }
 
-/// Owes a part a direct read. No other part is owed one then.
-fn owe<W: World>(owed: &mut Option<Owed<W>>, leave: Leave<W>, segment: Segment)
-    ensures { owed.new ≡ Some (record { leave = leave; segment = owed_segment segment }) }
+/// Owes a part a direct read, which is the next one then.
+pub(super) fn add_owed<W: World>(owed: &mut Vec<Owed<W>>, leave: Leave<W>, segment: Segment)
+    requires { vec_len owed.old < vec_capacity owed.old }
+    ensures items { owed.new.items ≡ owed.old.items ++ record { leave = leave; segment = owed_segment segment } ∷ [] }
+    ensures room { vec_capacity owed.new ≡ vec_capacity owed.old }
 {
     let segment = Segment {
         source: Source::Origin,
         ..segment
     };
-    if let Some(other) = owed.replace(Owed { leave, segment }) {
-        other.discard();
-    }
+    owed.push_reserved(Owed { leave, segment });
 }
 
 impl<W: World> ReadOp<W> {
@@ -105,7 +105,7 @@ impl<W: World> ReadOp<W> {
             }
             Look::Lost(leave) => {
                 self.counts.directs += 1;
-                owe(&mut self.owed, leave, segment);
+                add_owed(&mut self.owed, leave, segment);
                 Saw::Lost
             }
             Look::Own(pin) => {
@@ -115,7 +115,7 @@ impl<W: World> ReadOp<W> {
             }
             Look::Stray(leave) => {
                 self.counts.directs += 1;
-                owe(&mut self.owed, leave, segment);
+                add_owed(&mut self.owed, leave, segment);
                 Saw::Stray
             }
         }

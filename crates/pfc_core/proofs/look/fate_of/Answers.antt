@@ -7,7 +7,7 @@ use Rattle.pfc_core.specs.declared.look.Fate.TheVariants.{Stray, Flying, Ready, 
 use Rattle.pfc_core.specs.Held.{is_held}
 use Rattle.pfc_core.specs.Slots.{slot_of}
 use Rattle.pfc_core.specs.Fates.{IsBare, IsWhose, HasFate}
-use Rattle.pfc_core.proofs.Kept.{apart_none, apart_other}
+use Rattle.pfc_core.proofs.Bare.{apart_none, apart_other}
 use Rattle.pfc_core.proofs.look.fate_of.Goals as goal
 
 whose : (p : Held) (slots : List Slot) (pins : List Held) (f : Fate) → IsBare p slots pins → IsWhose p f → HasFate p slots pins f

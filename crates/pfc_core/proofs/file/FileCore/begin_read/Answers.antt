@@ -4,8 +4,9 @@ use Rattle.pfc_core.specs.Marks.{ReadingKind}
 use Rattle.pfc_core.specs.Held.{Puts}
 use Rattle.pfc_core.specs.Out.{Home}
 use Rattle.pfc_core.specs.Homes.{home_of}
-use Rattle.pfc_core.proofs.Kept.{room_at_most, puts_length}
+use Rattle.pfc_core.proofs.Rooms.{room_at_most, puts_length}
 use Rattle.pfc_core.proofs.Outs.{gains_reading, mark_at}
+use Rattle.pfc_core.proofs.Rooms.{alarm_most}
 use Rattle.pfc_core.proofs.file.FileCore.begin_read.Goals as goal
 
 pub invariant_of-self-2 : goal.invariant_of-self-2
@@ -14,8 +15,11 @@ invariant_of-self-2 g c = let s = c.self.inside in let was = c.self.invariant in
     let room = c.in_ok-make_room.ensures.room in record {
       held = rw (c.make_room.ensures.first, c.make_room.ensures.entries) was.held;
       guests = rw (c.make_room.ensures.entries) was.guests;
-      room = omega (arith, room, room_at_most s.shelf.slots, puts_length _ _ _ put);
+      found = rw (c.make_room.ensures.entries) was.found;
+      said = rw (c.make_room.ensures.first, c.make_room.ensures.entries) was.said;
+      room = omega (arith, room, c.in_ok-others.ensures.sum, alarm_most s.sets, room_at_most s.shelf.slots, puts_length _ _ _ put);
       sized = rw (c.make_room.ensures.first) was.sized;
+      lends = rw (c.make_room.ensures.first) was.lends;
     }
 
 pub returns-clause-ok : goal.returns-clause-ok
@@ -24,6 +28,6 @@ returns-clause-ok g c = let s = c.self.inside in
     let at = c.tag_of.ensures.at in
     rw (← c.self.view_is) (record {
       reads = record { kind_is = refl; instance_is = ap (λ (h : Home). h.instance) at; path_is = ap (λ (h : Home). h.path) at; size_is = ap (λ (h : Home). h.size) at; block_size_is = ap (λ (h : Home). h.block_size) at; client_is = ap (λ (p : Held). p.client) c.tag_of.ensures.held ∙ c.add-held.ensures.client };
-      gains = rw (mark_at ReadingKind _ _ _ _ at c.tag_of.ensures.held) (gains_reading (home_of s.instance s.shelf) s.stays.list s.pins.list s.shelf.slots c.add-held.result s.readings.list c.add-held.new.self.list put);
+      gains = rw (mark_at ReadingKind _ _ _ _ at c.tag_of.ensures.held) (gains_reading (home_of s.instance s.shelf) s.stays.list s.pins.list s.disks.list s.loan s.shelf.slots c.add-held.result s.readings.list c.add-held.new.self.list put);
       rest = rw (c.make_room.ensures.first, c.make_room.ensures.entries) refl;
     })

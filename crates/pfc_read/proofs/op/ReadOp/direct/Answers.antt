@@ -5,7 +5,8 @@ use Rattle.pfc_core.specs.Marks.{Mark}
 use Rattle.pfc_read.specs.OpView.{OpView, ToFill}
 use Rattle.pfc_read.specs.Kept.{given_of}
 use Rattle.pfc_read.proofs.Written.{part-long, written-part}
-use Rattle.pfc_read.proofs.Moves.{kept-came, kept-fault, placed-leave, same-fill}
+use Rattle.pfc_read.specs.declared.segment.Hand.TheVariants as hand
+use Rattle.pfc_read.proofs.Moves.{given-leave, kept-came, kept-fault, placed-leave, same-fill}
 use Rattle.pfc_read.proofs.op.ReadOp.direct.Goals as goal
 
 pub invariant_of-self : goal.invariant_of-self
@@ -16,7 +17,8 @@ invariant_of-self g c =
     let files = g.W.World.files in
     let leave = c.args.leave in
     let into = c.direct.new.into in
-    let within = (placed-leave told files s seg c.in-Leave.is c.self.invariant).within in
+    let placed = placed-leave told files s seg c.in-Leave.is c.self.invariant in
+    let within = placed.within in
     let long : length into ≡ seg.part.len = part-long seg.at seg.part.len c.deref_mut.result.now s.bytes.items into c.deref_mut.ensures.value within c.in-Ok.ensures.length in
     let w = written-part s.bytes c.deref_mut.result.now seg.at seg.part.len into c.deref_mut.ensures.value within long in
     let reading : s.reading ≡ c.args.self.now.reading = ap (λ (v : OpView). v.reading) c.self.view_is in
@@ -28,7 +30,7 @@ invariant_of-self g c =
     subst (λ p. Holds told files p (seg.part.block * s.reading.block_size + seg.part.from) into) path
     (subst (λ b. Holds told files leave.path (seg.part.block * b + seg.part.from) into) k
     (subst (λ (p : Part). Holds told files leave.path (p.block * leave.block_size + p.from) into) (sym part) c.in-Ok.ensures.ok)) in
-    kept-came told files s seg _ into c.plus-self-inside.result c.in-Leave.is long w holds c.plus-self-inside.ensures c.self.invariant
+    kept-came told files s (hand.Leave seg) seg _ into c.plus-self-inside.result c.in-Leave.is (given-leave seg) placed long w holds c.plus-self-inside.ensures c.self.invariant
 
 pub invariant_of-self-in-Err : goal.invariant_of-self-in-Err
 invariant_of-self-in-Err g c =

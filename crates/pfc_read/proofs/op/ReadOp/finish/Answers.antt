@@ -16,18 +16,18 @@ returns-in-None-clause-core g c =
     let s = c.self.inside in
     let ended : given_of s.hand ≡ ToEnd = ap (λ (v : OpView). v.given) c.self.view_is ∙ c.requires in
     subst (λ v. EndsRead c.args.core.now v (Some s.served) c.give_back.new.core) c.self.view_is
-    (ends-op g.W.World.told g.W.World.files s ended c.args.core.now c.gather-pins.result.items (Some s.served) c.give_back.new.core c.gather-pins.ensures c.self.invariant c.give_back.ensures)
+    (ends-op g.W.World.told g.W.World.files s ended c.args.core.now c.gather-pins.result.items c.gather_disks-disks.result.items (Some s.served) c.give_back.new.core c.gather-pins.ensures c.gather_disks-disks.ensures c.self.invariant c.give_back.ensures)
 
 pub returns-in-Some-Fault-clause-core : goal.returns-in-Some-Fault-clause-core
 returns-in-Some-Fault-clause-core g c =
     let s = c.self.inside in
     let ended : given_of s.hand ≡ ToEnd = ap (λ (v : OpView). v.given) c.self.view_is ∙ c.requires in
     subst (λ v. EndsRead c.args.core.now v None c.give_back-in-Some-Fault.new.core) c.self.view_is
-    (ends-op g.W.World.told g.W.World.files s ended c.args.core.now c.gather-pins.result.items None c.give_back-in-Some-Fault.new.core c.gather-pins.ensures c.self.invariant c.give_back-in-Some-Fault.ensures)
+    (ends-op g.W.World.told g.W.World.files s ended c.args.core.now c.gather-pins.result.items c.gather_disks-disks.result.items None c.give_back-in-Some-Fault.new.core c.gather-pins.ensures c.gather_disks-disks.ensures c.self.invariant c.give_back-in-Some-Fault.ensures)
 
 pub returns-clause-core : goal.returns-clause-core
 returns-clause-core g c =
     let s = c.self.inside in
     let ended : given_of s.hand ≡ ToEnd = ap (λ (v : OpView). v.given) c.self.view_is ∙ c.requires in
     subst (λ v. EndsRead c.args.core.now v None c.give_back-in-Some-Memory.new.core) c.self.view_is
-    (ends-op g.W.World.told g.W.World.files s ended c.args.core.now c.gather-pins.result.items None c.give_back-in-Some-Memory.new.core c.gather-pins.ensures c.self.invariant c.give_back-in-Some-Memory.ensures)
+    (ends-op g.W.World.told g.W.World.files s ended c.args.core.now c.gather-pins.result.items c.gather_disks-disks.result.items None c.give_back-in-Some-Memory.new.core c.gather-pins.ensures c.gather_disks-disks.ensures c.self.invariant c.give_back-in-Some-Memory.ensures)

@@ -69,7 +69,7 @@ invariant_of-self-in-Lost g c =
     let pin_for : IsPinFor s.reading seg.part c.args.pin = subst (λ r. IsPinFor r seg.part c.args.pin) reading (subst (λ (p : Part). IsPinFor c.args.self.now.reading p c.args.pin) part c.requires.pin) in
     let looks = c.in-Lost.ensures.looks in
     let leave : c.in-Lost.leave ≡ leave_of c.args.pin seg.part = looks.leave_is ∙ ap (leave_of c.args.pin) part in
-    kept-owes told files s seg _ into c.args.pin c.in-Lost.leave c.owe.new.owed c.in-Pin.is long w pin_for.token leave c.owe.ensures c.self.invariant
+    kept-owes told files s seg _ into c.args.pin c.in-Lost.leave c.add_owed.new.owed c.in-Pin.is long w pin_for.token leave c.add_owed.ensures.items c.add_owed.ensures.room c.self.invariant
 
 pub invariant_of-self-in-Own : goal.invariant_of-self-in-Own
 invariant_of-self-in-Own g c =
@@ -106,4 +106,4 @@ invariant_of-self-in-Stray g c =
     let pin_for : IsPinFor s.reading seg.part c.args.pin = subst (λ r. IsPinFor r seg.part c.args.pin) reading (subst (λ (p : Part). IsPinFor c.args.self.now.reading p c.args.pin) part c.requires.pin) in
     let looks = c.in-Stray.ensures.looks in
     let leave : c.in-Stray.leave ≡ leave_of c.args.pin seg.part = looks.leave_is ∙ ap (leave_of c.args.pin) part in
-    kept-owes told files s seg _ into c.args.pin c.in-Stray.leave c.owe-in-Stray.new.owed c.in-Pin.is long w pin_for.token leave c.owe-in-Stray.ensures c.self.invariant
+    kept-owes told files s seg _ into c.args.pin c.in-Stray.leave c.add_owed-in-Stray.new.owed c.in-Pin.is long w pin_for.token leave c.add_owed-in-Stray.ensures.items c.add_owed-in-Stray.ensures.room c.self.invariant

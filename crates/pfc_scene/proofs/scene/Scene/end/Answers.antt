@@ -19,7 +19,7 @@ returns-in-Ok-clause-caused g c lines asked =
     c.end_clients.ensures.told ∙ ap (λ (l : List Told). l ++ map told_of (reverse c.reverse.new.self.items)) c.requires.told ∙ ap (map told_of) twice in
     let done = subst (λ (cs : List ClientView). (j : ℕ) (d : ClientView) → j < length cs → IsDone g.W.World.told g.W.World.files (slice_index_or cs j d).book (slice_index_or cs j d).line (slice_index_or cs j d).stage)
     (c.deref.ensures.value ∙ c.parts-clients.ensures.clients) (c.if-not-done.ensures refl) in
-    let sections = subst (AreSections c.in-Ok.logs.items) c.parts-clients.ensures.cores c.in-Ok.ensures in
+    let sections = subst (AreSections g.W.World.told g.W.World.files c.in-Ok.logs.items) c.parts-clients.ensures.cores c.in-Ok.ensures in
     let all = caused g.W.World.told g.W.World.files c.args.self.block_size lines c.args.self.clients c.args.self.cores c.in-Ok.logs.items c.parts-clients.ensures.scene done asked sections in
     let report : c.new.result ≡ record { clients = map told_of c.args.self.clients; logs = c.in-Ok.logs.items } = c.new.ensures ∙ ap (λ (l : List Told). record { clients = l; logs = c.in-Ok.logs.items }) told in
     subst (λ (r : Rows). IsCausedReport g.W.World.told g.W.World.files c.args.self.block_size lines nothing_spent (spent_by r) c.new.result) (sym rows)

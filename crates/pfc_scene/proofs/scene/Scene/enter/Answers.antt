@@ -8,8 +8,8 @@ pub invariant_of-self : goal.invariant_of-self
 invariant_of-self g c =
     moved c.self.inside.block_size c.self.inside.clients.items c.self.inside.cores.items c.args.j c.index_mut.result.now c.enter.new.self c.self.invariant (search rules) c.index_mut.ensures.value (own_moves c.index_mut.result.now c.enter.new.self c.enter.ensures)
 
-pub returns-clause-same : goal.returns-clause-same
-returns-clause-same g c =
+pub returns-in-Joins-clause-same : goal.returns-in-Joins-clause-same
+returns-in-Joins-clause-same g c =
     map-set_same who c.self.inside.clients.items c.args.j c.enter.new.self c.index_mut.result.now
     (ap (λ n. (n, c.enter.new.self.book.asked)) c.enter.ensures.number ∙ ap (λ q. (c.index_mut.result.now.book.number, q)) c.enter.ensures.asked ∙ ap who c.index_mut.ensures.value)
     ∙ ap (λ (v : SceneView). map who v.clients) c.self.view_is

@@ -12,4 +12,4 @@ pub returns-in-None-clause-same : goal.returns-in-None-clause-same
 returns-in-None-clause-same g c =
     map-set_same who c.self.inside.clients.items c.args.j c.give_up.new.self c.index_mut.result.now
     (ap (λ n. (n, c.give_up.new.self.book.asked)) c.give_up.ensures.number ∙ ap (λ q. (c.index_mut.result.now.book.number, q)) c.give_up.ensures.asked ∙ ap who c.index_mut.ensures.value)
-    ∙ ap (λ (v : SceneView). map who v.clients) c.self.view_is ∙ ap (map who) c.core_of.ensures.clients
+    ∙ ap (λ (v : SceneView). map who v.clients) c.self.view_is

@@ -1,0 +1,95 @@
+// Loans of a file's store.
+ghost use Rattle.std.specs.Prelude.{◌≡◌, ◌*◌, ◌+◌, ◌≤◌, length, IsTrue, OnOk};
+ghost use Rattle.pfc_base.specs.Block.{IsPartOf};
+ghost use Rattle.pfc_world.specs.Files.{Holds};
+ghost use Rattle.pfc_core.specs.declared.loan.Did.TheVariants as did;
+ghost use Rattle.pfc_core.specs.Loans.{ReadsLent, WritesLent};
+
+use crate::tag::Tag;
+use pfc_base::Part;
+use pfc_store::{FileStore, Put, ReadRefusal, WriteRefusal};
+use pfc_world::{Block, DataDev, InfoDev, Known, World};
+use std::marker::Model;
+
+/// What a loan did that its core is to enter.
+#[derive(Clone, Copy, Debug, PartialEq, Eq)]
+pub enum Did {
+    Nothing,
+    /// It wrote this block.
+    Wrote(u32),
+    /// A write failed, which froze the store.
+    Broke,
+}
+
+/// Why no store is lent.
+#[derive(Clone, Copy, Debug, PartialEq, Eq, Drop)]
+pub enum NoLoan {
+    /// The loan of this number is out.
+    Out { number: u64 },
+    /// The file isn't cached, or no store of it is at home.
+    NoStore,
+}
+
+/// The store of a core's file, lent for reads and one write. It must be given back.
+pub struct Loan<W: World, D: DataDev<W>, I: InfoDev<W>> {
+    pub(crate) tag: Tag<W>,
+    pub(crate) store: FileStore<W, D, I>,
+    pub(crate) did: Did,
+}
+
+impl<W: World, D: DataDev<W>, I: InfoDev<W>> Model for Loan<W, D, I> {
+    ghost use Rattle.pfc_core.specs.Loans.{LoanView, IsLoan};
+    ghost use Rattle.pfc_core.specs.Marks.{LoanKind};
+    ghost use Rattle.pfc_core.specs.Tags.{mark_of};
+
+    ghost Value = { LoanView D I };
+
+    ghost view = { λ l. record { mark = mark_of LoanKind l.tag; store = l.store; did = l.did } };
+
+    ghost invariant = { λ l. IsLoan (mark_of LoanKind l.tag) l.store };
+}
+
+impl<W: World, D: DataDev<W>, I: InfoDev<W>> Loan<W, D, I> {
+    /// The file whose store was lent.
+    pub fn known(&self) -> &Known<W>
+        ensures path { result.now.path ≡ self.now.store.path }
+        ensures size { result.now.size ≡ self.now.store.size }
+    {
+        self.store.known()
+    }
+
+    /// The block size in bytes.
+    pub fn block_size(&self) -> u64
+        ensures { result ≡ self.now.store.block_size }
+    {
+        self.store.block_size()
+    }
+
+    /// Reads a part of a block into a slice of the part's length, by one positioned read. A failure freezes nothing.
+    pub fn read_part(&mut self, part: Part, into: &mut [u8]) -> Result<(), ReadRefusal>
+        requires part { IsPartOf self.old.store.size self.old.store.block_size part }
+        requires into { length into.old ≡ part.len }
+        ensures reads { ReadsLent W.told W.files D.told I.told D.faults D.seen I.seen self.old part.block result self.new }
+        ensures bytes { OnOk result (IsTrue D.told → Holds W.told W.files self.old.store.path (part.block * self.old.store.block_size + part.from) into.new) }
+        ensures length { length into.new ≡ length into.old }
+    {
+        self.store.read_part(part, into)
+    }
+
+    /// Writes a block of this file and block size, by one positioned write. One block at most is written by a loan.
+    pub fn write_block(&mut self, block: &Block<W>) -> Result<Put, WriteRefusal>
+        requires path { block.now.known.path ≡ self.old.store.path }
+        requires size { block.now.known.size ≡ self.old.store.size }
+        requires block_size { block.now.block_size ≡ self.old.store.block_size }
+        requires once { self.old.did ≡ did.Nothing }
+        ensures { WritesLent W.told W.files D.told I.told D.faults D.seen I.seen self.old block.now.number result self.new }
+    {
+        let answer = self.store.write_block(block);
+        match answer {
+            Ok(Put::Wrote) => self.did = Did::Wrote(block.number()),
+            Err(WriteRefusal::Device(_)) => self.did = Did::Broke,
+            Ok(Put::AlreadyThere) | Err(WriteRefusal::Frozen(_)) => (),
+        }
+        answer
+    }
+}
