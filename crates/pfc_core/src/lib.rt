@@ -19,6 +19,3 @@ pub use line::{Flight, Line};
 pub use loan::{Did, Loan, NoLoan};
 pub use look::Look;
 pub use token::{Decision, Job, OnDisk, Pin, Reading, Stay, Strayed, Ticket, Twin};
-
-#[cfg(test)]
-mod tests;
