@@ -36,6 +36,11 @@ pub record ReadsLent {D I : Type 0} (told : Bool) (files : Files) (told_data tol
   pub moments : StaysSound told files told_data told_info seen shown old.store new.store
   pub rising : faults old.store.first ≤ faults new.store.first
 
+-- a read of some block of it
+pub record IsRead {D I : Type 0} (told : Bool) (files : Files) (told_data told_info : Bool) (faults : D → ℕ) (seen : D → Run Disk) (shown : I → Run Info) (old : LoanView D I) (result : Result Unit ReadRefusal) (new : LoanView D I) : Type 0 where
+  pub block : ℕ
+  pub reads : ReadsLent told files told_data told_info faults seen shown old block result new
+
 -- what a write did that is to be entered
 abbrev pub did_by : ℕ → Result Put WriteRefusal → Did
 did_by i (Ok put.Wrote) = did.Wrote i

@@ -25,5 +25,6 @@ pub record IsNewUncached (instance : ℕ) (path : List ℕ) (size k : ℕ) (why 
   pub block_size_is : v.block_size ≡ k
   pub start : v.first ≡ start.Uncached why
   pub stored_is : v.stored ≡ []
+  pub durable_is : v.durable ≡ []
   pub entries : v.entries ≡ []
   pub out : v.out ≡ []

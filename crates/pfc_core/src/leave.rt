@@ -68,12 +68,11 @@ impl<W: World> Leave<W> {
     }
 }
 
-/// A leave in the place of a pin.
-pub(crate) fn leave_for<W: World>(pin: Pin<W>, part: Part) -> Leave<W>
-    requires { IsPartOf pin.size pin.block_size part }
-    ensures { result ≡ leave_of pin part }
+/// A leave for the client of a token, in the token's place.
+fn leave_by<W: World>(tag: Tag<W>, part: Part) -> Leave<W>
+    requires { IsPartOf tag.known.size tag.block_size part }
+    ensures { result ≡ record { client = tag.held.client; path = tag.known.path; size = tag.known.size; block_size = tag.block_size; part = part } }
 {
-    let Pin { tag } = pin;
     let Tag {
         known,
         block_size,
@@ -88,24 +87,22 @@ pub(crate) fn leave_for<W: World>(pin: Pin<W>, part: Part) -> Leave<W>
     }
 }
 
+/// A leave in the place of a pin.
+pub(crate) fn leave_for<W: World>(pin: Pin<W>, part: Part) -> Leave<W>
+    requires { IsPartOf pin.size pin.block_size part }
+    ensures { result ≡ leave_of pin part }
+{
+    let Pin { tag } = pin;
+    leave_by(tag, part)
+}
+
 /// A leave in the place of a token for a block on disk.
 pub(crate) fn leave_for_disk<W: World>(disk: OnDisk<W>, part: Part) -> Leave<W>
     requires { IsPartOf disk.size disk.block_size part }
     ensures { result ≡ leave_of disk part }
 {
     let OnDisk { tag } = disk;
-    let Tag {
-        known,
-        block_size,
-        held,
-        ..
-    } = tag;
-    Leave {
-        known,
-        block_size,
-        client: held.client,
-        part,
-    }
+    leave_by(tag, part)
 }
 
 /// A client's leave for a part of a file.

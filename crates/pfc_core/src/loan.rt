@@ -1,9 +1,12 @@
 // Loans of a file's store.
 ghost use Rattle.std.specs.Prelude.{◌≡◌, ◌*◌, ◌+◌, ◌≤◌, length, IsTrue, OnOk};
 ghost use Rattle.pfc_base.specs.Block.{IsPartOf};
+ghost use Rattle.pfc_world.specs.Depot.{AllSound};
+ghost use Rattle.pfc_world.specs.Disk.{IsImage};
 ghost use Rattle.pfc_world.specs.Files.{Holds};
+ghost use Rattle.pfc_world.specs.Info.{IsMain};
 ghost use Rattle.pfc_core.specs.declared.loan.Did.TheVariants as did;
-ghost use Rattle.pfc_core.specs.Loans.{ReadsLent, WritesLent};
+ghost use Rattle.pfc_core.specs.Loans.{IsLoan, ReadsLent, WritesLent};
 
 use crate::tag::Tag;
 use pfc_base::Part;
@@ -63,6 +66,32 @@ impl<W: World, D: DataDev<W>, I: InfoDev<W>> Loan<W, D, I> {
         ensures { result ≡ self.now.store.block_size }
     {
         self.store.block_size()
+    }
+
+    /// Hands out what the type keeps: the store is of the file of its mark.
+    pub fn keeps(&self)
+        ensures { IsLoan self.now.mark self.now.store }
+    {
+        let _did = self.did;
+    }
+
+    /// What it did that its core is to enter.
+    pub fn did(&self) -> Did
+        ensures { result ≡ self.now.did }
+    {
+        self.did
+    }
+
+    /// Ends a loan that its core doesn't take back: the devices of the store, of which each pair that a crash may leave is
+    /// sound.
+    pub fn end(self) -> (D, I)
+        ensures first { result.0 ≡ self.store.first }
+        ensures second { result.1 ≡ self.store.second }
+        ensures sound { IsTrue W.told → IsTrue D.told → IsTrue I.told → AllSound W.files self.store.path (IsImage (D.seen result.0).now) (IsMain (I.seen result.1).now) }
+    {
+        let Loan { tag, store, did: _ } = self;
+        drop(tag);
+        store.parts()
     }
 
     /// Reads a part of a block into a slice of the part's length, by one positioned read. A failure freezes nothing.

@@ -52,6 +52,13 @@ impl Sets {
         &self.stored
     }
 
+    /// Whether no crash can take a block.
+    pub fn is_durable(&self, block: u32) -> bool
+        ensures { result ≡ is_member self.now.durable block }
+    {
+        block < self.durable.bound() && self.durable.test(block)
+    }
+
     /// Whether a block can be read from disk.
     pub fn has(&self, block: u32) -> bool
         ensures { result ≡ is_member self.now.stored block }

@@ -216,6 +216,13 @@ impl<W: World> Model for Job<W> {
 }
 
 impl<W: World> Job<W> {
+    /// The number of the core that gave it out.
+    pub fn instance(&self) -> u64
+        ensures { result ≡ self.now.instance }
+    {
+        self.tag.instance
+    }
+
     /// The block, which is the job's.
     pub fn block(&self) -> &Block<W>
         ensures { block_view result.now ≡ block_at self.now }

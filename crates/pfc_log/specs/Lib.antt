@@ -9,3 +9,4 @@ pub mod Text
 pub mod Positions
 pub mod Tallies
 pub mod Uncaching
+pub mod Charges

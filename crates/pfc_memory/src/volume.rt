@@ -1,5 +1,6 @@
 // Volumes in memory.
-ghost use Rattle.std.specs.Prelude.{◌≡◌, ◌↔◌, ◌-◌, None, Some, IsTrue, IsSome, IfOk, IfSome, IfNone};
+ghost use Rattle.std.specs.Prelude.{◌≡◌, ◌↔◌, None, Some, IsTrue, IsSome, IfOk, IfSome, IfNone};
+ghost use Rattle.pfc_world.specs.Counts.{rise};
 ghost use Rattle.pfc_world.specs.Depot.{HasVolume};
 ghost use Rattle.pfc_memory.specs.Depot.{IsDataAt, IsMainAt, IsEmptied, IsBare, AreFresh, IsForgot, IsLeftOf, IsHomeLeftOf, IsVolumeLeftOf};
 
@@ -23,6 +24,16 @@ pub(crate) struct Volume {
     pub(crate) home: Option<Devices>,
     /// How many calls of each device had failed as the volume was lent last.
     pub(crate) lent: (u64, u64),
+}
+
+/// How far a count rose. One at its last value may stand for any rise.
+fn rise_of(before: u64, after: u64) -> u64
+    ensures { result ≡ rise before after }
+{
+    if after == u64::MAX {
+        return u64::MAX;
+    }
+    after.saturating_sub(before)
 }
 
 impl Devices {
@@ -107,7 +118,7 @@ impl Volume {
         ensures lent { self.new.lent ≡ self.old.lent }
         ensures home { IfSome self.new.home (λ devices. IsForgot first second devices) }
         ensures some { IsSome self.new.home }
-        ensures risen { result ≡ (first.calls.faults - self.old.lent.0, second.calls.faults - self.old.lent.1) }
+        ensures risen { result ≡ (rise self.old.lent.0 first.calls.faults, rise self.old.lent.1 second.calls.faults) }
     {
         let mut devices = Devices {
             data: first,
@@ -118,8 +129,8 @@ impl Volume {
         devices.info.forget();
         self.home = Some(devices);
         (
-            first_faults.saturating_sub(self.lent.0),
-            second_faults.saturating_sub(self.lent.1),
+            rise_of(self.lent.0, first_faults),
+            rise_of(self.lent.1, second_faults),
         )
     }
 

@@ -1,5 +1,5 @@
 -- Counts of calls and of faults, which stay at 2 ^ 64 - 1 once they stand there.
-use Rattle.std.specs.Prelude.{ℕ, ◌+◌, ◌-◌, ◌^◌, ◌<◌, ◌≤◌, ◌⊎◌, min, max, Result, Ok, Err}
+use Rattle.std.specs.Prelude.{ℕ, ◌+◌, ◌-◌, ◌^◌, ◌<◌, ◌≤◌, ◌⊎◌, ◌==◌, if◌then◌else◌, min, max, Result, Ok, Err}
 use Rattle.std.proofs.Common.{arith}
 use Rattle.pfc_world.specs.declared.refusal.Refusal.{Refusal}
 use Rattle.pfc_world.specs.declared.refusal.Refusal.TheVariants.{Fault, Memory}
@@ -11,6 +11,10 @@ last_count = 2 ^ 64 - 1
 -- says of every number that it doesn't fall.
 abbrev pub add_count : ℕ → ℕ → ℕ
 add_count a b = max a (min (a + b) last_count)
+
+-- how far a count rose from one value to another; at its last value it may stand for any rise
+abbrev pub rise : ℕ → ℕ → ℕ
+rise before after = if after == last_count then last_count else after - before
 
 -- rose, or stands at its last value
 abbrev pub Rose : ℕ → ℕ → Type 0

@@ -1,12 +1,12 @@
 -- What a depot has at home, what is out of it, and what a call changes of that. What is home is said by two tests for
 -- each path: whether a list is an image of its data device, and whether an absent or present list is one of its main
 -- file.
-use Rattle.std.specs.Prelude.{◌≡◌, ◌≢◌, ◌⊎◌, ◌↔◌, ◌≤◌, ◌+◌, ◌-◌, ℕ, suc, Bool, true, false, List, [], Option, Some, Contains, AllPairs, IsSome, length, Result, Ok, Err}
+use Rattle.std.specs.Prelude.{◌≡◌, ◌≢◌, ◌⊎◌, ◌↔◌, ◌≤◌, ◌+◌, ℕ, suc, Bool, true, false, List, [], Option, Some, Contains, AllPairs, IsSome, length, Result, Ok, Err}
 use Rattle.std.specs.Ordering.{nat_cmp}
 use Rattle.std.specs.Cmp.Lexicographic.{slice_cmp}
 use Rattle.std.specs.declared.cmp.Ordering.TheVariants.{Less}
 use Rattle.pfc_base.specs.Cinfo.{IsSound}
-use Rattle.pfc_world.specs.Counts.{Rose}
+use Rattle.pfc_world.specs.Counts.{Rose, rise}
 use Rattle.pfc_world.specs.Files.{Files, file_at}
 use Rattle.pfc_world.specs.declared.depot.Taken.{Taken}
 use Rattle.pfc_world.specs.declared.depot.Taken.TheVariants.{Volume, Out, Fault, Memory}
@@ -69,7 +69,7 @@ pub record Loses (path : List ℕ) (old new : List (List ℕ)) : Type 0 where
 
 -- how far two counts rose since they were these
 abbrev pub risen : ℕ × ℕ → ℕ → ℕ → ℕ
-risen before first second = (first - before.0) + (second - before.1)
+risen before first second = rise before.0 first + rise before.1 second
 
 -- ---- what take answers
 

@@ -1,6 +1,7 @@
 // Blocks on disk: how the right to read one ends.
 ghost use Rattle.std.specs.Prelude.{◌≡◌, false, IsTrue, OnOk, IfErr};
 ghost use Rattle.pfc_base.specs.Block.{IsPartOf};
+ghost use Rattle.pfc_log.specs.Charges.{is_charged};
 ghost use Rattle.pfc_core.specs.Calls.{Strays};
 ghost use Rattle.pfc_core.specs.Disks.{EndsDisk, LeavesBroken};
 ghost use Rattle.pfc_core.specs.Marks.{listed};
@@ -36,6 +37,17 @@ impl<W: World> FileCore<W> {
             return false;
         }
         self.disks.take(disk.tag.held)
+    }
+
+    /// Whether a store that refuses to read this block does so for a failed call of its own: it isn't frozen, or the block is
+    /// durable.
+    pub fn is_charged(&self, block: u32) -> bool
+        ensures { result ≡ is_charged self.now.first self.now.entries block }
+    {
+        if self.sets.is_frozen() {
+            return self.sets.is_durable(block);
+        }
+        true
     }
 
     /// Sends a part of a block that couldn't be read from disk to the origin, once its store answered that it failed or is

@@ -1,7 +1,7 @@
-use Rattle.std.proofs.Common.{◌≡◌, subst, sym, ap, ◌∙◌, refl, IsTrue, ◌-◌, ◌+◌, ◌≤◌, ℕ, rules}
-use Rattle.std.specs.Prelude.{is_none, is_some, Some, None}
+use Rattle.std.proofs.Common.{subst, sym, ap, ◌∙◌, ◌+◌, ◌≤◌, rules}
+use Rattle.std.specs.Prelude.{is_none}
 use Rattle.pfc_memory.specs.Depot.{lent_of, IsPlaceOf, IsGapFor}
-use Rattle.pfc_memory.proofs.Lending.{returns_set, order_set, place_answer, place_path, gap_answer, place_here, added, same_read, has, lacks, returns_home}
+use Rattle.pfc_memory.proofs.Lending.{order_set, place_answer, gap_answer, place_here, added, same_read, has, lacks, returns_home}
 use Rattle.pfc_memory.specs.declared.volume.Volume.{Volume}
 use Rattle.pfc_world.specs.Counts.{add_count, last_count}
 use Rattle.pfc_world.specs.Depot.{risen}
