@@ -1,17 +1,19 @@
 -- A client that is asked one more line.
 use Rattle.std.proofs.Common.{◌≡◌, ℕ, zero, suc, ◌+◌, ◌≤◌, ◌<◌, List, [], ◌∷◌, ◌++◌, length, refl, sym, ◌∙◌, arith, false}
 use Rattle.std.specs.Prelude.{Result, Ok, slice_get}
+use Rattle.pfc_base.specs.declared.block.Part.{Part}
 use Rattle.pfc_log.specs.Tallies.{Tally}
 use Rattle.pfc_client.specs.declared.request.Request.{Request}
 use Rattle.pfc_client.specs.declared.request.Request.TheVariants as q
 use Rattle.pfc_client.specs.declared.request.RequestRefusal.{RequestRefusal}
 use Rattle.pfc_client.proofs.Telling.{stats_longer, lost_longer}
 use Rattle.pfc_core.specs.LineView.{LineView}
-use Rattle.pfc_read.specs.OpView.{OpView, Given}
+use Rattle.pfc_core.specs.Marks.{Mark}
+use Rattle.pfc_read.specs.OpView.{OpView, Given, ToRead}
 use Rattle.pfc_actor.specs.Books.{BookView, IsNext}
 use Rattle.pfc_actor.specs.StageView.{StageView}
 use Rattle.pfc_actor.specs.StageView as st
-use Rattle.pfc_actor.specs.Stages.{AtWork, IsAsked, GoesOn, shares}
+use Rattle.pfc_actor.specs.Stages.{AtWork, IsAsked, GoesOn, Loads, shares}
 use Rattle.pfc_actor.specs.Steps.{IsTallied}
 use Rattle.pfc_actor.specs.Clients.{ClientView, IsClient, Moves}
 use Rattle.pfc_actor.proofs.Steps.{shrinks_same}
@@ -48,6 +50,9 @@ goes_longer b line op given goes = record {
   given_is = goes.given_is;
 }
 
+loads_longer : (b : BookView) (line : List ℕ) (op : OpView) (disk : Mark) (part : Part) → Loads b op disk part → Loads (longer b line) op disk part
+loads_longer b line op disk part loads = record { goes = goes_longer b line op (ToRead part) loads.goes; disk_for = loads.disk_for; part_of = loads.part_of }
+
 -- the request at work is at work still
 work_longer : (b : BookView) (line : List ℕ) (stage : StageView) → b.shut ≡ false → AtWork b stage → AtWork (longer b line) stage
 work_longer b line st.Rest going work = λ more. going
@@ -63,7 +68,11 @@ work_longer b line (st.Full op job) going work = (goes_longer b line op _ work.0
 work_longer b line (st.Running op ticket) going work = (goes_longer b line op _ work.0, work.1)
 work_longer b line (st.Directing op leave) going work = (goes_longer b line op _ work.0, work.1)
 work_longer b line (st.Looking op pin part) going work = (goes_longer b line op _ work.0, work.1)
-work_longer b line (st.Loading op disk part) going work = (goes_longer b line op _ work.0, work.1)
+work_longer b line (st.Loading op disk part) going work = loads_longer b line op disk part work
+work_longer b line (st.Borrowing op disk part) going work = loads_longer b line op disk part work
+work_longer b line (st.Loaded op disk) going work = (goes_longer b line op _ work.0, work.1)
+work_longer b line (st.Refused op disk part) going work = loads_longer b line op disk part work
+work_longer b line (st.Broken op disk part) going work = loads_longer b line op disk part work
 work_longer b line (st.Ending op) going work = (goes_longer b line op _ work.0, work.1)
 
 pub client_longer : (b b2 : BookView) (l : LineView) (line : List ℕ) (stage : StageView) → b.shut ≡ false → b2 ≡ longer b line → IsClient b l stage → IsClient b2 l stage

@@ -1,6 +1,7 @@
 -- The steps of a read.
 use Rattle.std.proofs.Common.{◌≡◌, ℕ, ◌+◌, ◌*◌, ◌≤◌, ◌<◌, List, [], ◌∷◌, ◌++◌, refl, sym, ap, ◌∙◌, subst, arith, Bool, true, false, inl, inr}
 use Rattle.std.specs.Prelude.{◌⊎◌, Option, Some, Ok, ◌==◌, sum_by, if◌then◌else◌, slice_get}
+use Rattle.std.proofs.lemmas.List.Sums.{sum_by_push}
 use Rattle.pfc_base.specs.declared.block.Part.{Part}
 use Rattle.pfc_base.specs.declared.block.Piece.{Piece}
 use Rattle.pfc_world.specs.Counts.{Rose, RoseBy, add_count, last_count}
@@ -24,7 +25,7 @@ use Rattle.pfc_core.specs.Leaves.{pins_on}
 use Rattle.pfc_core.specs.Line.{Brings, Wants}
 use Rattle.pfc_core.specs.Line as line
 use Rattle.pfc_core.specs.LineView.{LineView}
-use Rattle.pfc_core.specs.Disks.{GoesBroken}
+use Rattle.pfc_core.specs.Disks.{EndsDisk, GoesBroken}
 use Rattle.pfc_core.specs.Looks.{LeavesFor}
 use Rattle.pfc_core.specs.Marks.{Mark, sees}
 use Rattle.pfc_core.specs.View.{CoreView}
@@ -32,13 +33,14 @@ use Rattle.pfc_read.specs.Fills.{Owes}
 use Rattle.pfc_read.specs.OpView.{OpView, held, first_met, Nothing}
 use Rattle.pfc_read.specs.Plans.{Plans, with_asked}
 use Rattle.pfc_read.specs.Steps.{GivesTicket, GivesLeave, GivesPin, GivesDisk, GivesEnd}
+use Rattle.pfc_writer.specs.Queue.{QueueView}
 use Rattle.pfc_actor.specs.Books.{BookView, IsNext, open_weight}
-use Rattle.pfc_actor.specs.StageView.{StageView, Rest, Planning, Reading, Landed, Full, Running, Directing, Looking, Loading, Ending}
+use Rattle.pfc_actor.specs.StageView.{StageView, Rest, Planning, Reading, Landed, Full, Loading, Borrowing, Loaded, Refused, Broken, Running, Directing, Looking, Ending}
 use Rattle.pfc_actor.specs.Stages.{Shares, shares, no_shares, op_shares, weight, stage_weight, owed, asking, failing}
-use Rattle.pfc_actor.specs.Steps.{Shrinks, Own, Step, Knows}
+use Rattle.pfc_actor.specs.Steps.{Shrinks, Own, Step, Puts, Knows}
 use Rattle.pfc_actor.proofs.Tallied.{GoesOn, Answers, counted, made, quiet, told}
 use Rattle.pfc_actor.proofs.Steps.{shrinks_same}
-use Rattle.pfc_actor.proofs.Entering.{Gained, gained_one, HasRoom, step_on}
+use Rattle.pfc_actor.proofs.Entering.{Gained, gained_one, gained_same, HasRoom, step_on}
 use Rattle.pfc_actor.proofs.Cores.{still_home, own_step}
 
 -- the stage is one of this read
@@ -225,21 +227,6 @@ lost_step b l op op2 pin part c c2 leaves owes here mine =
     (gained_one b.number c.entries c2.entries x (ap (λ (v : CoreView). v.entries) leaves.enters) (ap Some mine))
     (λ t. made l l (Looking op pin part) (Reading op2) t (together t g) 0 0 (omega arith) (omega (arith, one, more)) (omega arith)) (omega arith) (inl (omega arith))
 
--- the block couldn't be read from disk, and a leave is entered in the place of the token
-pub broken_step : (b : BookView) (l : LineView) (op op2 : OpView) (disk : Mark) (part : Part) (c c2 : CoreView) → GoesBroken c disk c2 → Owes op op2 →
-    op.reading.instance ≡ c.instance → disk.client ≡ b.number → Step b l (Loading op disk part) c b l (Reading op2) c2
-broken_step b l op op2 disk part c c2 leaves owes here mine =
-    let x : Entry = e.Direct disk.block disk.client way.Device in
-    let g : Tally = gain b.number (owners c.entries) x in
-    let one : g.directs ≡ 1 = ap {B = ℕ} (λ (n : ℕ). if n == b.number then 1 else 0) mine ∙ ap (λ (q : Bool). if q then 1 else 0) (eq_self b.number) in
-    let more = ap (λ (v : OpView). v.leaves) owes.rest in
-    read_step b l l (Loading op disk part) (Reading op2) op op2 c c2 g (record { asks = refl; fails = refl; shares_are = λ i. refl }) (record { asks = refl; fails = refl; shares_are = λ i. refl })
-    (record { reading = ap (λ (v : OpView). v.reading) owes.rest; hits = ap (λ (v : OpView). v.hits) owes.rest; waits = ap (λ (v : OpView). v.waits) owes.rest; directs = let d = ap (λ (v : OpView). v.directs) owes.rest in omega (arith, d, one); failed = let d = ap (λ (v : OpView). v.failed) owes.rest in omega (arith, d) })
-    (record { opened = refl; served = refl; hit = refl; missed = refl; bypassed = refl }) here refl (still_home c c2 x c2.out leaves.enters)
-    (λ w. let s = leaves.loses w in let h = ap (held w) owes.rest in omega (arith, s, h))
-    (gained_one b.number c.entries c2.entries x (ap (λ (v : CoreView). v.entries) leaves.enters) (ap Some mine))
-    (λ t. made l l (Loading op disk part) (Reading op2) t (together t g) 0 0 (omega arith) (omega (arith, one, more)) (omega arith)) (omega arith) (inl (omega arith))
-
 -- the pin goes back, and the core is as it was
 pub looked_step : (b : BookView) (l : LineView) (op op2 : OpView) (pin : Mark) (part : Part) (looks : ℕ) (met : Option Fell) (c c2 : CoreView) → c2 ≡ c → ((w : Mark → ℕ) → sum_by w op2.pins ≡ sum_by w op.pins + w pin) →
     op2 ≡ record op { pins = op2.pins; looks = looks; met = met; given = Nothing } → Step b l (Looking op pin part) c b l (Reading op2) c2
@@ -250,6 +237,48 @@ looked_step b l op op2 pin part looks met c c2 same gains rest =
     (ap (λ (v : OpView). v.failed) rest) (ap (λ (v : OpView). v.leaves) rest)
     (λ w. let n = gains w in let h = ap (held w) rest in omega (arith, n, h)))
     same
+
+-- ---- a part on disk
+
+-- the block couldn't be read from disk, and a leave is entered in the place of the token
+pub broken_step : (b : BookView) (l : LineView) (op op2 : OpView) (disk : Mark) (part : Part) (c c2 : CoreView) → GoesBroken c disk c2 → Owes op op2 →
+    op.reading.instance ≡ c.instance → disk.client ≡ b.number → Step b l (Broken op disk part) c b l (Reading op2) c2
+broken_step b l op op2 disk part c c2 leaves owes here mine =
+    let x : Entry = e.Direct disk.block disk.client way.Device in
+    let g : Tally = gain b.number (owners c.entries) x in
+    let one : g.directs ≡ 1 = ap {B = ℕ} (λ (n : ℕ). if n == b.number then 1 else 0) mine ∙ ap (λ (q : Bool). if q then 1 else 0) (eq_self b.number) in
+    let more = ap (λ (v : OpView). v.leaves) owes.rest in
+    read_step b l l (Broken op disk part) (Reading op2) op op2 c c2 g (record { asks = refl; fails = refl; shares_are = λ i. refl }) (record { asks = refl; fails = refl; shares_are = λ i. refl })
+    (record { reading = ap (λ (v : OpView). v.reading) owes.rest; hits = ap (λ (v : OpView). v.hits) owes.rest; waits = ap (λ (v : OpView). v.waits) owes.rest; directs = let d = ap (λ (v : OpView). v.directs) owes.rest in omega (arith, d, one); failed = let d = ap (λ (v : OpView). v.failed) owes.rest in omega (arith, d) })
+    (record { opened = refl; served = refl; hit = refl; missed = refl; bypassed = refl }) here refl (still_home c c2 x c2.out leaves.enters)
+    (λ w. let s = leaves.loses w in let h = ap (held w) owes.rest in omega (arith, s, h))
+    (gained_one b.number c.entries c2.entries x (ap (λ (v : CoreView). v.entries) leaves.enters) (ap Some mine))
+    (λ t. made l l (Broken op disk part) (Reading op2) t (together t g) 0 0 (omega arith) (omega (arith, one, more)) (omega arith)) (omega arith) (inl (omega arith))
+
+-- the part couldn't be read
+pub refused_own : (b : BookView) (l : LineView) (op op2 : OpView) (disk : Mark) (part : Part) → op2 ≡ op → Own b l (Borrowing op disk part) b l (Refused op2 disk part)
+refused_own b l op op2 disk part same = rw same (op_own b l (Borrowing op disk part) (Refused op disk part) op op (record { asks = refl; fails = refl; shares_are = λ i. refl }) (record { asks = refl; fails = refl; shares_are = λ i. refl })
+    (record { reading = refl; hits = refl; waits = refl; directs = omega arith; failed = omega arith }) refl refl (λ w. refl))
+
+-- the part was read into the reply
+pub loaded_own : (b : BookView) (l : LineView) (op op2 : OpView) (disk : Mark) (part : Part) → op2 ≡ record op { given = Nothing } → Own b l (Borrowing op disk part) b l (Loaded op2 disk)
+loaded_own b l op op2 disk part same =
+    op_own b l (Borrowing op disk part) (Loaded op2 disk) op op2 (record { asks = refl; fails = refl; shares_are = λ i. refl }) (record { asks = refl; fails = refl; shares_are = λ i. refl })
+    (record { reading = ap (λ (v : OpView). v.reading) same; hits = ap (λ (v : OpView). v.hits) same; waits = ap (λ (v : OpView). v.waits) same; directs = let d = ap (λ (v : OpView). v.directs) same in omega (arith, d); failed = let d = ap (λ (v : OpView). v.failed) same in omega (arith, d) })
+    (ap (λ (v : OpView). v.failed) same) (ap (λ (v : OpView). v.leaves) same)
+    (λ w. let h = ap (held w) same in omega (arith, h))
+
+-- the right to read goes back
+pub returned_step : (b : BookView) (l : LineView) (op : OpView) (disk : Mark) (c c2 : CoreView) → EndsDisk c disk c2 → op.reading.instance ≡ c.instance → Step b l (Loaded op disk) c b l (Reading op) c2
+returned_step b l op disk c c2 ends here =
+    let same : c2.entries ≡ c.entries = ap (λ (v : CoreView). v.entries) ends.rest in
+    read_step b l l (Loaded op disk) (Reading op) op op c c2 nothing (record { asks = refl; fails = refl; shares_are = λ i. refl }) (record { asks = refl; fails = refl; shares_are = λ i. refl })
+    (record { reading = refl; hits = refl; waits = refl; directs = omega arith; failed = omega arith })
+    (record { opened = refl; served = refl; hit = refl; missed = refl; bypassed = refl }) here refl
+    (subst (λ (es : List Entry). c2 ≡ record c { entries = es; out = c2.out }) (sym same) ends.rest)
+    (λ w. let s = ends.loses w in omega (arith, s))
+    (gained_same b.number c.entries c2.entries same)
+    (λ t. made l l (Loaded op disk) (Reading op) t (together t nothing) 0 0 (omega arith) (omega arith) (omega arith)) (omega arith) (inl (omega arith))
 
 -- ---- the next action
 
@@ -369,3 +398,29 @@ dropped_step b l op job why c c2 drops here =
     (λ w. let s = drops.loses w in omega (arith, s))
     (record { mine = same b.number ∙ sym (nothing_more (tally b.number c.entries)); others = λ m other. same m })
     (λ t. made l l (Full op job) (Reading op) t (together t nothing) 0 0 (omega arith) (omega arith) (omega arith)) (omega arith) (inl (omega arith))
+
+-- ---- a block that is put to the queue
+
+-- the queue had no room
+pub full_puts : (b : BookView) (l : LineView) (op : OpView) (job : Mark) (q q2 : QueueView) → q2 ≡ q → Puts b l (Landed op job) q b l (Full op job) q2
+full_puts b l op job q q2 same = rw same (record {
+  number = refl;
+  link = refl;
+  asked = refl;
+  tokens = λ w. refl;
+  capacity = refl;
+  tallied = λ t old. record { opened = old.opened; served = old.served; read = old.read; least = old.least; most = old.most; faults = old.faults; failed = old.failed };
+  elsewhere = λ i. shrinks_same (op_shares i op);
+})
+
+-- the queue took the job
+pub queued_puts : (b : BookView) (l : LineView) (op : OpView) (job : Mark) (q q2 : QueueView) → q2 ≡ record q { jobs = q.jobs ++ job ∷ [] } → Puts b l (Landed op job) q b l (Reading op) q2
+queued_puts b l op job q q2 same = rw same (record {
+  number = refl;
+  link = refl;
+  asked = refl;
+  tokens = λ w. let s = sum_by_push w q.jobs job in omega (arith, s);
+  capacity = refl;
+  tallied = λ t old. record { opened = old.opened; served = old.served; read = old.read; least = old.least; most = old.most; faults = old.faults; failed = old.failed };
+  elsewhere = λ i. shrinks_same (op_shares i op);
+})

@@ -6,5 +6,9 @@ pub mod Entering
 pub mod Cores
 pub mod Holding
 pub mod Going
+pub mod Calm
 pub mod Ending
 pub mod Asking
+pub mod Backings
+pub mod BackingHomes
+pub mod BackingLoans

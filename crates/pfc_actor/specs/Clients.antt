@@ -1,5 +1,5 @@
 -- What contracts see of a client.
-use Rattle.std.specs.Prelude.{◌≡◌, ◌≤◌, ℕ, Bool, List, [], length, count_by, None, replicate, false}
+use Rattle.std.specs.Prelude.{◌≡◌, ◌≤◌, ℕ, Bool, List, [], length, count_by, Option, Some, None, replicate, false}
 use Rattle.pfc_world.specs.Files.{Files}
 use Rattle.pfc_world.specs.Counts.{RoseBy}
 use Rattle.pfc_log.specs.Tallies.{Tally}
@@ -59,8 +59,17 @@ pub record StepsAt (i : ℕ) (b : BookView) (st : StageView) : Type 0 where
 abbrev pub StepsAlone : StageView → Type 0
 StepsAlone Rest = Unit {0}
 StepsAlone st.Closed = Unit {0}
-StepsAlone (st.Landed op job) = Unit {0}
 StepsAlone _ = ⊥
+
+-- a landed block is to be put to the queue
+abbrev pub IsLanded : StageView → Type 0
+IsLanded (st.Landed op job) = Unit {0}
+IsLanded _ = ⊥
+
+-- the block of the part that is to be left for the origin
+abbrev pub leaving_of : StageView → Option ℕ
+leaving_of (st.Broken op disk part) = Some disk.block
+leaving_of _ = None
 
 -- the file of this path is to be opened
 abbrev pub Wants : List ℕ → StageView → Type 0
@@ -77,7 +86,12 @@ abbrev pub IsPlace : BookView → StageView → Place → Type 0
 IsPlace b st place.Alone = StepsAlone st
 IsPlace b st place.Wants = (path : List ℕ) × Wants path st
 IsPlace b st place.Enters = (path : List ℕ) × Enters path st
+IsPlace b st place.Puts = IsLanded st
 IsPlace b st (place.Core i) = StepsAt i b st
+IsPlace b st (place.Lends i) = StepsAt i b st
+IsPlace b st (place.Reads i) = StepsAt i b st
+IsPlace b st (place.Returns i) = StepsAt i b st
+IsPlace b st (place.Leaves i) = StepsAt i b st
 
 -- each request has its reply, and the replies are permitted
 pub record IsDone (told : Bool) (files : Files) (b : BookView) (l : LineView) (st : StageView) : Type 0 where

@@ -5,3 +5,5 @@ pub mod Seen
 pub mod Stages
 pub mod Steps
 pub mod Clients
+pub mod Backings
+pub mod Standings

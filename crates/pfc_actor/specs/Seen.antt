@@ -1,7 +1,7 @@
 -- A stage as contracts see it.
 use Rattle.pfc_actor.specs.declared.stage.Stage.{Stage}
 use Rattle.pfc_actor.specs.declared.stage.Stage.TheVariants as stage
-use Rattle.pfc_actor.specs.StageView.{StageView, Rest, Wanted, Making, Joining, Planning, Closing, Closed, Reading, Landed, Full}
+use Rattle.pfc_actor.specs.StageView.{StageView, Rest, Wanted, Making, Joining, Planning, Closing, Closed, Reading, Landed, Full, Loading, Borrowing, Loaded, Refused, Broken}
 
 abbrev pub seen : {W : Type 0} → Stage W → StageView
 seen stage.Rest = Rest
@@ -13,4 +13,9 @@ seen (stage.Closing number) = Closing number
 seen stage.Closed = Closed
 seen (stage.Reading op) = Reading op
 seen (stage.Landed op job) = Landed op job
-seen (stage.Full op job) = Full op job
+seen (stage.Full op job capacity) = Full op job
+seen (stage.Loading op disk part) = Loading op disk part
+seen (stage.Borrowing op disk part) = Borrowing op disk part
+seen (stage.Loaded op disk) = Loaded op disk
+seen (stage.Refused op disk part) = Refused op disk part
+seen (stage.Broken op disk part) = Broken op disk part

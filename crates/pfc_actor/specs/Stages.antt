@@ -1,5 +1,7 @@
 -- What a client at a stage of its work holds and owes.
 use Rattle.std.specs.Prelude.{◌≡◌, ℕ, ◌+◌, ◌<◌, ◌≤◌, ◌==◌, true, false, List, length, Option, Some, Ok, if◌then◌else◌}
+use Rattle.pfc_base.specs.Block.{IsPartOf}
+use Rattle.pfc_base.specs.declared.block.Part.{Part}
 use Rattle.pfc_base.specs.declared.block.Piece.{Piece}
 use Rattle.pfc_log.specs.declared.entry.Fell.{Fell}
 use Rattle.pfc_log.specs.declared.entry.Fell.TheVariants.{Fault}
@@ -7,7 +9,7 @@ use Rattle.pfc_client.specs.declared.request.Request.{Request}
 use Rattle.pfc_client.specs.declared.request.Request.TheVariants as q
 use Rattle.pfc_client.specs.Session.{place_at, is_free}
 use Rattle.pfc_client.specs.Permitted.{most_bytes}
-use Rattle.pfc_core.specs.Marks.{Mark, TicketKind}
+use Rattle.pfc_core.specs.Marks.{Mark, TicketKind, DiskKind}
 use Rattle.pfc_core.specs.View.{CoreView}
 use Rattle.pfc_read.specs.OpView.{OpView, Given, Nothing, ToRun, ToFill, ToLook, ToRead, ToEnd, held}
 use Rattle.pfc_read.specs.Steps.{IsTokenOf, IsLeaveOf, IsPinFor, IsDiskFor}
@@ -24,6 +26,10 @@ stage_weight w (st.Running op ticket) = held w op + w ticket
 stage_weight w (st.Directing op leave) = held w op
 stage_weight w (st.Looking op pin part) = held w op + w pin
 stage_weight w (st.Loading op disk part) = held w op + w disk
+stage_weight w (st.Borrowing op disk part) = held w op + w disk
+stage_weight w (st.Loaded op disk) = held w op + w disk
+stage_weight w (st.Refused op disk part) = held w op + w disk
+stage_weight w (st.Broken op disk part) = held w op + w disk
 stage_weight w (st.Ending op) = held w op
 stage_weight w _ = 0
 
@@ -40,6 +46,10 @@ owed (st.Running op ticket) = op.leaves
 owed (st.Directing op leave) = op.leaves + 1
 owed (st.Looking op pin part) = op.leaves
 owed (st.Loading op disk part) = op.leaves
+owed (st.Borrowing op disk part) = op.leaves
+owed (st.Loaded op disk) = op.leaves
+owed (st.Refused op disk part) = op.leaves
+owed (st.Broken op disk part) = op.leaves
 owed (st.Ending op) = op.leaves
 owed _ = 0
 
@@ -59,6 +69,10 @@ failing (st.Running op ticket) = op.failed
 failing (st.Directing op leave) = op.failed
 failing (st.Looking op pin part) = op.failed
 failing (st.Loading op disk part) = op.failed
+failing (st.Borrowing op disk part) = op.failed
+failing (st.Loaded op disk) = op.failed
+failing (st.Refused op disk part) = op.failed
+failing (st.Broken op disk part) = op.failed
 failing (st.Ending op) = op.failed
 failing _ = 0
 
@@ -75,6 +89,10 @@ doomed (st.Running op ticket) = is_fault op.met
 doomed (st.Directing op leave) = is_fault op.met
 doomed (st.Looking op pin part) = is_fault op.met
 doomed (st.Loading op disk part) = is_fault op.met
+doomed (st.Borrowing op disk part) = is_fault op.met
+doomed (st.Loaded op disk) = is_fault op.met
+doomed (st.Refused op disk part) = is_fault op.met
+doomed (st.Broken op disk part) = is_fault op.met
 doomed (st.Ending op) = is_fault op.met
 doomed _ = 0
 
@@ -98,6 +116,10 @@ shares i (st.Running op ticket) = op_shares i op
 shares i (st.Directing op leave) = op_shares i op
 shares i (st.Looking op pin part) = op_shares i op
 shares i (st.Loading op disk part) = op_shares i op
+shares i (st.Borrowing op disk part) = op_shares i op
+shares i (st.Loaded op disk) = op_shares i op
+shares i (st.Refused op disk part) = op_shares i op
+shares i (st.Broken op disk part) = op_shares i op
 shares i (st.Ending op) = op_shares i op
 shares i _ = no_shares
 
@@ -129,6 +151,12 @@ pub record GoesOn (b : BookView) (op : OpView) (given : Given) : Type 0 where
   pub client_is : op.reading.client ≡ b.number
   pub given_is : op.given ≡ given
 
+-- the read at work, with a part to be read from disk
+pub record Loads (b : BookView) (op : OpView) (disk : Mark) (part : Part) : Type 0 where
+  pub goes : GoesOn b op (ToRead part)
+  pub disk_for : IsDiskFor op.reading part disk
+  pub part_of : IsPartOf disk.size disk.block_size part
+
 abbrev pub AtWork : BookView → StageView → Type 0
 AtWork b st.Rest = length b.replies < length b.asked → b.shut ≡ false
 AtWork b (st.Wanted wanted) = Opens b wanted.number wanted.path
@@ -143,7 +171,11 @@ AtWork b (st.Full op job) = GoesOn b op Nothing × (job.instance ≡ op.reading.
 AtWork b (st.Running op ticket) = GoesOn b op ToRun × IsTokenOf op.reading TicketKind ticket
 AtWork b (st.Directing op leave) = GoesOn b op (ToFill leave.part) × IsLeaveOf op.reading leave
 AtWork b (st.Looking op pin part) = GoesOn b op (ToLook part) × IsPinFor op.reading part pin
-AtWork b (st.Loading op disk part) = GoesOn b op (ToRead part) × IsDiskFor op.reading part disk
+AtWork b (st.Loading op disk part) = Loads b op disk part
+AtWork b (st.Borrowing op disk part) = Loads b op disk part
+AtWork b (st.Loaded op disk) = GoesOn b op Nothing × IsTokenOf op.reading DiskKind disk
+AtWork b (st.Refused op disk part) = Loads b op disk part
+AtWork b (st.Broken op disk part) = Loads b op disk part
 AtWork b (st.Ending op) = GoesOn b op ToEnd × (op.leaves ≡ 0)
 
 -- the next step of the client is one on this core
@@ -154,4 +186,9 @@ Here b (st.Planning number piece) c = (stay : Mark) → place_at b.stays number 
 Here b (st.Closing number) c = (stay : Mark) → place_at b.stays number ≡ Some stay → stay.instance ≡ c.instance
 Here b (st.Reading op) c = op.reading.instance ≡ c.instance
 Here b (st.Full op job) c = op.reading.instance ≡ c.instance
+Here b (st.Loading op disk part) c = op.reading.instance ≡ c.instance
+Here b (st.Borrowing op disk part) c = op.reading.instance ≡ c.instance
+Here b (st.Loaded op disk) c = op.reading.instance ≡ c.instance
+Here b (st.Refused op disk part) c = op.reading.instance ≡ c.instance
+Here b (st.Broken op disk part) c = op.reading.instance ≡ c.instance
 Here b _ c = ⊥

@@ -8,6 +8,7 @@ use Rattle.pfc_core.specs.Marks.{Mark, sees, listed}
 use Rattle.pfc_core.specs.Calls.{foreign}
 use Rattle.pfc_core.specs.LineView.{LineView}
 use Rattle.pfc_core.specs.View.{CoreView}
+use Rattle.pfc_writer.specs.Queue.{QueueView}
 use Rattle.pfc_actor.specs.StageView.{StageView}
 use Rattle.pfc_actor.specs.Books.{BookView}
 use Rattle.pfc_actor.specs.Stages.{Shares, shares, weight, owed, asking, failing, doomed}
@@ -65,5 +66,15 @@ pub record Own (b : BookView) (l : LineView) (st : StageView) (b2 : BookView) (l
   pub link : l2.number ≡ l.number
   pub asked : b2.asked ≡ b.asked
   pub tokens : (w : Mark → ℕ) → weight w b2 st2 ≡ weight w b st
+  pub tallied : (t : Tally) → IsTallied b l st t → IsTallied b2 l2 st2 t
+  pub elsewhere : (i : ℕ) → Shrinks (shares i st) (shares i st2)
+
+-- a landed block is put to the queue, or finds no room there
+pub record Puts (b : BookView) (l : LineView) (st : StageView) (q : QueueView) (b2 : BookView) (l2 : LineView) (st2 : StageView) (q2 : QueueView) : Type 0 where
+  pub number : b2.number ≡ b.number
+  pub link : l2.number ≡ l.number
+  pub asked : b2.asked ≡ b.asked
+  pub tokens : (w : Mark → ℕ) → weight w b2 st2 + sum_by w q2.jobs ≡ weight w b st + sum_by w q.jobs
+  pub capacity : q2.capacity ≡ q.capacity
   pub tallied : (t : Tally) → IsTallied b l st t → IsTallied b2 l2 st2 t
   pub elsewhere : (i : ℕ) → Shrinks (shares i st) (shares i st2)

@@ -1,6 +1,7 @@
 // A client and its request at work.
 ghost use Rattle.std.specs.Prelude.{◌≡◌, ◌<◌, ◌≤◌, ◌+◌, ◌++◌, ◌∷◌, [], ℕ, List, length, replicate, true, false, IsTrue, Option, Some, None, IfOk, IfSome, IfNone, IsSome, OnOk, OnErr};
 ghost use Rattle.pfc_client.specs.Session.{place_at};
+ghost use Rattle.pfc_log.specs.Charges.{GrowsCalmly};
 ghost use Rattle.pfc_core.specs.Marks.{Mark};
 ghost use Rattle.pfc_core.specs.View.{CoreView};
 ghost use Rattle.pfc_actor.specs.declared.client.Place.TheVariants as place;
@@ -9,14 +10,17 @@ ghost use Rattle.pfc_actor.specs.Stages.{AtWork, Here};
 ghost use Rattle.pfc_actor.specs.Steps.{IsCaused, Knows, Own, Step};
 ghost use Rattle.pfc_actor.specs.Clients.{ClientView, IsFresh, IsPlace, IsDone, OpensAt, Moves, Wants};
 
+mod disk;
+
 use crate::book::Book;
 use crate::opening::{close, open, shut, without};
-use crate::reading::{act, drop_full, plan, put};
+use crate::reading::{act, drop_full, plan};
 use crate::stage::{Stage, Wanted};
 use crate::taking::take;
 use pfc_base::{Memory, Path};
 use pfc_client::Reply;
-use pfc_core::{FileCore, Line};
+use pfc_core::{FileCore, Line, OnDisk};
+use pfc_read::ReadOp;
 use pfc_world::{Origin, World};
 use std::alloc::Global;
 use std::marker::Model;
@@ -50,8 +54,18 @@ pub enum Place {
     Wants,
     /// It enters a core of its file.
     Enters,
+    /// It puts a landed block to the queue.
+    Puts,
     /// On the core of this number.
     Core(u64),
+    /// It wants the store of the file of this core lent.
+    Lends(u64),
+    /// It reads by the loan of the store.
+    Reads(u64),
+    /// It gives the store back.
+    Returns(u64),
+    /// It leaves a part that couldn't be read from disk.
+    Leaves(u64),
 }
 
 /// The core of the file that is open at a descriptor.
@@ -63,6 +77,12 @@ fn place_of<W: World>(book: &Book<W>, number: u64) -> Place
         None => Place::Alone,
         Some(instance) => Place::Core(instance),
     }
+}
+
+/// Spends a read that is at a part on disk.
+fn spend_disk<W: World>(op: ReadOp<W>, disk: OnDisk<W>) {
+    disk.discard();
+    op.discard();
 }
 
 /// Spends a stage that no core takes.
@@ -77,7 +97,12 @@ fn spend<W: World>(stage: Stage<W>) {
         Stage::Closed => (),
         Stage::Reading(op) => op.discard(),
         Stage::Landed(op, _) => op.discard(),
-        Stage::Full(op, _) => op.discard(),
+        Stage::Full(op, _, _) => op.discard(),
+        Stage::Loading(op, disk, _) => spend_disk(op, disk),
+        Stage::Borrowing(op, disk, _) => spend_disk(op, disk),
+        Stage::Loaded(op, disk) => spend_disk(op, disk),
+        Stage::Refused(op, disk, _) => spend_disk(op, disk),
+        Stage::Broken(op, disk, _) => spend_disk(op, disk),
     }
 }
 
@@ -96,7 +121,6 @@ fn next_alone<W: World, O: Origin<W>>(
     match stage {
         Stage::Rest => take(book, line),
         Stage::Closed => Stage::Rest,
-        Stage::Landed(op, job) => put(op, job),
         other => other,
     }
 }
@@ -117,18 +141,16 @@ fn next_at<W: World, O: Origin<W>>(
     ensures work { AtWork book.new (seen result) }
     ensures caused { IsCaused book.new line.new (seen result) }
     ensures step { Step book.old line.old (seen stage) core.old book.new line.new (seen result) core.new }
+    ensures calm { GrowsCalmly core.old.entries core.new.entries }
 {
     match stage {
-        Stage::Rest => Stage::Rest,
-        Stage::Wanted(wanted) => Stage::Wanted(wanted),
         Stage::Making(wanted, _) => open(book, line, core, wanted),
         Stage::Joining(wanted) => open(book, line, core, wanted),
         Stage::Planning(number, piece) => plan(alloc, book, line, core, number, piece),
         Stage::Closing(number) => close(book, line, core, number),
-        Stage::Closed => Stage::Closed,
         Stage::Reading(op) => act(alloc, book, line, core, op),
-        Stage::Landed(op, job) => Stage::Landed(op, job),
-        Stage::Full(op, job) => drop_full(book, line, core, op, job),
+        Stage::Full(op, job, capacity) => drop_full(book, line, core, op, job, capacity),
+        other => other,
     }
 }
 
@@ -224,14 +246,22 @@ impl<W: World, O: Origin<W>> Client<W, O> {
             Stage::Closing(number) => place_of(&self.book, *number),
             Stage::Closed => Place::Alone,
             Stage::Reading(op) => Place::Core(op.instance()),
-            Stage::Landed(_, _) => Place::Alone,
-            Stage::Full(op, _) => Place::Core(op.instance()),
+            Stage::Landed(_, _) => Place::Puts,
+            Stage::Full(op, _, _) => Place::Core(op.instance()),
+            Stage::Loading(op, _, _) => Place::Lends(op.instance()),
+            Stage::Borrowing(op, _, _) => Place::Reads(op.instance()),
+            Stage::Loaded(op, _) => Place::Returns(op.instance()),
+            Stage::Refused(op, _, _) => Place::Returns(op.instance()),
+            Stage::Broken(op, _, _) => Place::Leaves(op.instance()),
         }
     }
 
-    /// Whether it took up a request whose first step is on a core.
+    /// Whether it took up a request whose first step is on a core, or a part whose first step is on a store.
     pub fn is_taken(&self) -> bool {
-        matches!(&self.stage, Stage::Planning(_, _) | Stage::Closing(_))
+        matches!(
+            &self.stage,
+            Stage::Planning(_, _) | Stage::Closing(_) | Stage::Loading(_, _, _)
+        )
     }
 
     /// Whether a core of this path was made for it, which it hasn't entered yet.
@@ -312,7 +342,8 @@ impl<W: World, O: Origin<W>> Client<W, O> {
         requires knows { Knows self.old.book self.old.stage core.old }
         requires here { Here self.old.book self.old.stage core.old }
         requires least { 4096 ≤ core.old.block_size }
-        ensures { Step self.old.book self.old.line self.old.stage core.old self.new.book self.new.line self.new.stage core.new }
+        ensures step { Step self.old.book self.old.line self.old.stage core.old self.new.book self.new.line self.new.stage core.new }
+        ensures calm { GrowsCalmly core.old.entries core.new.entries }
     {
         let stage = mem::replace(&mut self.stage, Stage::Rest);
         let next = next_at(alloc, &mut self.book, &mut self.line, core, stage);
@@ -345,7 +376,8 @@ impl<W: World, O: Origin<W>> Client<W, O> {
     /// Closes the lowest descriptor that is open, without a reply, where its file is of this core and the client is done.
     pub fn shut_at(&mut self, core: &mut FileCore<W>)
         requires knows { Knows self.old.book self.old.stage core.old }
-        ensures { Step self.old.book self.old.line self.old.stage core.old self.new.book self.new.line self.new.stage core.new }
+        ensures step { Step self.old.book self.old.line self.old.stage core.old self.new.book self.new.line self.new.stage core.new }
+        ensures calm { GrowsCalmly core.old.entries core.new.entries }
     {
         if self.is_done() {
             shut(&mut self.book, &self.line, core);

@@ -5,6 +5,7 @@ ghost use Rattle.pfc_client.specs.Session.{place_at};
 ghost use Rattle.pfc_actor.specs.StageView as st;
 ghost use Rattle.pfc_actor.specs.Seen.{seen};
 ghost use Rattle.pfc_actor.specs.Stages.{AtWork, Opens};
+ghost use Rattle.pfc_log.specs.Charges.{GrowsCalmly};
 ghost use Rattle.pfc_actor.specs.Steps.{IsCaused, Knows, Own, Step};
 
 use crate::book::Book;
@@ -27,6 +28,7 @@ pub(crate) fn open<W: World, O: Origin<W>>(
     ensures caused { IsCaused book.new line.now (seen result) }
     ensures making { Step book.old line.now (st.Making wanted) core.old book.new line.now (seen result) core.new }
     ensures joining { Step book.old line.now (st.Joining wanted) core.old book.new line.now (seen result) core.new }
+    ensures calm { GrowsCalmly core.old.entries core.new.entries }
 {
     match core.attach(book.number()) {
         Ok(stay) => {
@@ -74,6 +76,7 @@ pub(crate) fn close<W: World, O: Origin<W>>(
     ensures work { AtWork book.new (seen result) }
     ensures caused { IsCaused book.new line.now (seen result) }
     ensures step { Step book.old line.now (st.Closing number) core.old book.new line.now (seen result) core.new }
+    ensures calm { GrowsCalmly core.old.entries core.new.entries }
 {
     let Some(stay) = book.closed(number) else {
         return Stage::Closed;
@@ -96,6 +99,7 @@ pub(crate) fn shut<W: World, O: Origin<W>>(
     ensures work { AtWork book.new st.Rest }
     ensures caused { IsCaused book.new line.now st.Rest }
     ensures step { Step book.old line.now st.Rest core.old book.new line.now st.Rest core.new }
+    ensures calm { GrowsCalmly core.old.entries core.new.entries }
 {
     let Some(number) = book.first_open() else {
         return;

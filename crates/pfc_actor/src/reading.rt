@@ -1,21 +1,22 @@
 // How a client reads.
 ghost use Rattle.std.specs.Prelude.{◌≡◌, ◌<◌, ◌≤◌, ℕ, Some};
-ghost use Rattle.pfc_base.specs.Block.{IsPartOf};
 ghost use Rattle.pfc_core.specs.Marks.{Mark};
 ghost use Rattle.pfc_client.specs.Session.{place_at};
 ghost use Rattle.pfc_actor.specs.StageView as st;
 ghost use Rattle.pfc_actor.specs.Seen.{seen};
 ghost use Rattle.pfc_actor.specs.Stages.{AtWork};
-ghost use Rattle.pfc_actor.specs.Steps.{IsCaused, Knows, Own, Step};
+ghost use Rattle.pfc_log.specs.Charges.{GrowsCalmly};
+ghost use Rattle.pfc_actor.specs.Steps.{IsCaused, Knows, Own, Puts, Step};
 
 use crate::book::Book;
 use crate::stage::Stage;
 use pfc_base::{Part, Piece};
 use pfc_client::{Octets, Reply};
-use pfc_core::{FileCore, Flight, Job, Leave, Line, OnDisk, Pin, Strayed, Ticket};
+use pfc_core::{FileCore, Flight, Job, Leave, Line, Pin, Strayed, Ticket};
 use pfc_log::{DropCause, Fell};
 use pfc_read::{Action, Answer, Done, ReadOp, Saw};
 use pfc_world::{Origin, World};
+use pfc_writer::WriteQueue;
 use std::alloc::Global;
 
 /// Plans the read.
@@ -35,6 +36,7 @@ pub(crate) fn plan<W: World, O: Origin<W>>(
     ensures work { AtWork book.new (seen result) }
     ensures caused { IsCaused book.new line.now (seen result) }
     ensures step { Step book.old line.now (st.Planning number piece) core.old book.new line.now (seen result) core.new }
+    ensures calm { GrowsCalmly core.old.entries core.new.entries }
 {
     match ReadOp::plan(alloc, core, book.number(), piece) {
         Ok(op) => Stage::Reading(op),
@@ -61,6 +63,7 @@ fn run<W: World, O: Origin<W>>(
     ensures work { AtWork book.now (seen result) }
     ensures caused { IsCaused book.now line.new (seen result) }
     ensures step { Step book.now line.old (st.Running op ticket) core.old book.now line.new (seen result) core.new }
+    ensures calm { GrowsCalmly core.old.entries core.new.entries }
 {
     match line.run(alloc, ticket) {
         Flight::Landed(ticket, twin) => match core.land(ticket, twin) {
@@ -135,6 +138,7 @@ fn look<W: World, O: Origin<W>>(
     ensures work { AtWork book.now (seen result) }
     ensures caused { IsCaused book.now line.now (seen result) }
     ensures step { Step book.now line.now (st.Looking op pin part) core.old book.now line.now (seen result) core.new }
+    ensures calm { GrowsCalmly core.old.entries core.new.entries }
 {
     match op.look(core, pin, part) {
         Saw::Flying => Stage::Reading(op),
@@ -143,28 +147,6 @@ fn look<W: World, O: Origin<W>>(
         Saw::Own => Stage::Reading(op),
         Saw::Stray => Stage::Reading(op),
     }
-}
-
-/// Leaves a part that is on disk, since nobody lends the file's store.
-fn leave<W: World, O: Origin<W>>(
-    book: &Book<W>,
-    line: &Line<W, O>,
-    core: &mut FileCore<W>,
-    mut op: ReadOp<W>,
-    disk: OnDisk<W>,
-    part: Part,
-) -> Stage<W>
-    requires part { IsPartOf disk.size disk.block_size part }
-    requires work { AtWork book.now (st.Loading op disk part) }
-    requires knows { Knows book.now (st.Loading op disk part) core.old }
-    requires here { op.reading.instance ≡ core.old.instance }
-    requires caused { IsCaused book.now line.now (st.Loading op disk part) }
-    ensures work { AtWork book.now (seen result) }
-    ensures caused { IsCaused book.now line.now (seen result) }
-    ensures step { Step book.now line.now (st.Loading op disk part) core.old book.now line.now (seen result) core.new }
-{
-    op.owe(core.leave_broken(disk, part));
-    Stage::Reading(op)
 }
 
 /// Ends the read with its reply.
@@ -181,6 +163,7 @@ fn finish<W: World, O: Origin<W>>(
     ensures work { AtWork book.new (seen result) }
     ensures caused { IsCaused book.new line.now (seen result) }
     ensures step { Step book.old line.now (st.Ending op) core.old book.new line.now (seen result) core.new }
+    ensures calm { GrowsCalmly core.old.entries core.new.entries }
 {
     op.keeps();
     match op.finish(core) {
@@ -214,30 +197,45 @@ pub(crate) fn act<W: World, O: Origin<W>>(
     ensures work { AtWork book.new (seen result) }
     ensures caused { IsCaused book.new line.new (seen result) }
     ensures step { Step book.old line.old (st.Reading op) core.old book.new line.new (seen result) core.new }
+    ensures calm { GrowsCalmly core.old.entries core.new.entries }
 {
     match op.next() {
         Action::Run(ticket) => run(alloc, book, line, core, op, ticket),
         Action::Direct(leave) => direct(book, line, op, leave),
         Action::Look(pin, part) => look(book, line, core, op, pin, part),
-        Action::Disk(disk, part) => leave(book, line, core, op, disk, part),
+        Action::Disk(disk, part) => Stage::Loading(op, disk, part),
         Action::Finish => finish(book, line, core, op),
     }
 }
 
-/// Puts a landed block to the queue. There is no queue yet, so there is no room.
-pub(crate) fn put<W: World>(op: ReadOp<W>, job: Job<W>) -> Stage<W>
-    ensures { seen result ≡ st.Full op job }
+/// Puts a landed block to the queue, where it has room.
+pub(crate) fn put<W: World, O: Origin<W>>(
+    book: &Book<W>,
+    line: &Line<W, O>,
+    op: ReadOp<W>,
+    job: Job<W>,
+    queue: &mut WriteQueue<W>,
+) -> Stage<W>
+    requires work { AtWork book.now (st.Landed op job) }
+    requires caused { IsCaused book.now line.now (st.Landed op job) }
+    ensures work { AtWork book.now (seen result) }
+    ensures caused { IsCaused book.now line.now (seen result) }
+    ensures puts { Puts book.now line.now (st.Landed op job) queue.old book.now line.now (seen result) queue.new }
 {
-    Stage::Full(op, job)
+    match queue.put(job) {
+        Ok(()) => Stage::Reading(op),
+        Err(job) => Stage::Full(op, job, queue.capacity()),
+    }
 }
 
-/// Drops the block for which the queue had no room.
+/// Drops the block for which the queue had no room, with so many jobs in it.
 pub(crate) fn drop_full<W: World, O: Origin<W>>(
     book: &Book<W>,
     line: &Line<W, O>,
     core: &mut FileCore<W>,
     op: ReadOp<W>,
     job: Job<W>,
+    capacity: u32,
 ) -> Stage<W>
     requires work { AtWork book.now (st.Full op job) }
     requires knows { Knows book.now (st.Full op job) core.old }
@@ -246,8 +244,9 @@ pub(crate) fn drop_full<W: World, O: Origin<W>>(
     ensures work { AtWork book.now (seen result) }
     ensures caused { IsCaused book.now line.now (seen result) }
     ensures step { Step book.now line.now (st.Full op job) core.old book.now line.now (seen result) core.new }
+    ensures calm { GrowsCalmly core.old.entries core.new.entries }
 {
-    match core.drop_job(job, DropCause::Full { capacity: 0 }) {
+    match core.drop_job(job, DropCause::Full { capacity }) {
         Ok(()) => Stage::Reading(op),
         Err(Strayed { token, why: _ }) => {
             drop(token);

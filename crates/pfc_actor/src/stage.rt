@@ -2,8 +2,8 @@
 ghost use Rattle.std.specs.Prelude.{◌≡◌};
 ghost use Rattle.pfc_world.specs.Files.{HasSize};
 
-use pfc_base::{Path, Piece};
-use pfc_core::Job;
+use pfc_base::{Part, Path, Piece};
+use pfc_core::{Job, OnDisk};
 use pfc_read::ReadOp;
 use pfc_world::{Known, World};
 use std::marker::Model;
@@ -78,8 +78,18 @@ pub enum Stage<W: World> {
     Closed,
     /// A read that goes on with its next action.
     Reading(ReadOp<W>),
+    /// A read that wants the file's store lent, for a part that is on disk.
+    Loading(ReadOp<W>, OnDisk<W>, Part),
+    /// The store was lent for the part.
+    Borrowing(ReadOp<W>, OnDisk<W>, Part),
+    /// The part was read, and the store is to be given back.
+    Loaded(ReadOp<W>, OnDisk<W>),
+    /// The part couldn't be read, and the store is to be given back.
+    Refused(ReadOp<W>, OnDisk<W>, Part),
+    /// The part couldn't be read, and is to be read from the origin.
+    Broken(ReadOp<W>, OnDisk<W>, Part),
     /// A flight of the read landed, and its block is to be put to the queue.
     Landed(ReadOp<W>, Job<W>),
-    /// The queue was full.
-    Full(ReadOp<W>, Job<W>),
+    /// The queue was full, with so many jobs.
+    Full(ReadOp<W>, Job<W>, u32),
 }

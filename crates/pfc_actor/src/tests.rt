@@ -1,5 +1,5 @@
 //! Clients over the world of rows, in which `/a` has 8193 bytes.
-ghost use Rattle.std.specs.Prelude.{◌≡◌, ℕ, [], IfOk, sum_by};
+ghost use Rattle.std.specs.Prelude.{◌≡◌, ℕ, ◌+◌, [], IfOk, sum_by};
 ghost use Rattle.pfc_core.specs.Marks.{Mark};
 ghost use Rattle.pfc_actor.specs.Clients.{holds};
 
@@ -10,6 +10,7 @@ use pfc_core::{FileCore, Line};
 use pfc_log::push_log;
 use pfc_memory::{MemoryHost, MemoryLink, RowWorld};
 use pfc_world::Host;
+use pfc_writer::WriteQueue;
 use std::alloc::Global;
 use std::test::Fail;
 
@@ -130,12 +131,17 @@ fn core_of(alloc: Global, host: &mut RowHost) -> Result<FileCore<RowWorld>, Fail
     Ok(FileCore::new(alloc, 0, known, 4096, start)?)
 }
 
-/// One step of the only client of a core.
-fn step(alloc: Global, client: &mut RowClient, core: &mut FileCore<RowWorld>)
+/// One step of the only client of a core. Nothing of the file is on disk.
+fn step(
+    alloc: Global,
+    client: &mut RowClient,
+    core: &mut FileCore<RowWorld>,
+    queue: &mut WriteQueue<RowWorld>,
+)
     requires blocks { core.old.block_size ≡ 4096 }
-    requires tokens { (w : Mark → ℕ) → holds w client.old ≡ sum_by w core.old.out }
+    requires tokens { (w : Mark → ℕ) → holds w client.old + sum_by w queue.old.jobs ≡ sum_by w core.old.out }
     ensures blocks { core.new.block_size ≡ 4096 }
-    ensures tokens { (w : Mark → ℕ) → holds w client.new ≡ sum_by w core.new.out }
+    ensures tokens { (w : Mark → ℕ) → holds w client.new + sum_by w queue.new.jobs ≡ sum_by w core.new.out }
 {
     core.own();
     match client.place() {
@@ -149,30 +155,39 @@ fn step(alloc: Global, client: &mut RowClient, core: &mut FileCore<RowWorld>)
                 client.step_at(alloc, core);
             }
         }
+        Place::Puts => client.put(queue),
         Place::Core(instance) => {
             if instance == core.instance() {
                 client.step_at(alloc, core);
             }
         }
+        Place::Lends(_) | Place::Reads(_) | Place::Returns(_) | Place::Leaves(_) => (),
     }
 }
 
 /// So many steps.
-fn drive(alloc: Global, client: &mut RowClient, core: &mut FileCore<RowWorld>, steps: u32)
+fn drive(
+    alloc: Global,
+    client: &mut RowClient,
+    core: &mut FileCore<RowWorld>,
+    queue: &mut WriteQueue<RowWorld>,
+    steps: u32,
+)
     requires blocks { core.old.block_size ≡ 4096 }
-    requires tokens { (w : Mark → ℕ) → holds w client.old ≡ sum_by w core.old.out }
+    requires tokens { (w : Mark → ℕ) → holds w client.old + sum_by w queue.old.jobs ≡ sum_by w core.old.out }
 {
     for _step in 0..steps {
-        step(alloc, client, core);
+        step(alloc, client, core, queue);
     }
 }
 
-/// The replies to these lines, and the log.
+/// The replies to these lines, and the log. The queue has room for no job.
 fn play(alloc: Global, lines: &[&str]) -> Result<(Vec<Reply>, Vec<u8>), Fail> {
     let mut host = host_of(alloc, &[])?;
     let mut core = core_of(alloc, &mut host)?;
+    let mut queue = WriteQueue::new(alloc, 0)?;
     let mut client = client_of(alloc, &mut host, lines)?;
-    drive(alloc, &mut client, &mut core, 40);
+    drive(alloc, &mut client, &mut core, &mut queue, 40);
     let (_number, _link, replies) = client.end();
     let mut log = Vec::new(alloc);
     push_log(alloc, &mut log, core.known().path(), core.log())?;

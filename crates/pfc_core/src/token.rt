@@ -13,7 +13,7 @@ use crate::shelf::Shelf;
 use crate::tag::Tag;
 use pfc_base::Memory;
 use pfc_log::{Mark, Stranger};
-use pfc_world::{Block, World};
+use pfc_world::{Block, Known, World};
 use std::alloc::Global;
 use std::marker::Model;
 use std::sync::Arc;
@@ -247,6 +247,28 @@ impl<W: World> Model for OnDisk<W> {
 }
 
 impl<W: World> OnDisk<W> {
+    /// The file.
+    pub fn known(&self) -> &Known<W>
+        ensures path { result.now.path ≡ self.now.path }
+        ensures size { result.now.size ≡ self.now.size }
+    {
+        &self.tag.known
+    }
+
+    /// The block size in bytes.
+    pub fn block_size(&self) -> u64
+        ensures { result ≡ self.now.block_size }
+    {
+        self.tag.block_size
+    }
+
+    /// The number of the block.
+    pub fn block(&self) -> u32
+        ensures { result ≡ self.now.block }
+    {
+        self.tag.held.block
+    }
+
     pub fn discard(self) {
         let OnDisk { tag } = self;
         drop(tag);

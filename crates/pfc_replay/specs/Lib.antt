@@ -1,3 +1,4 @@
+pub mod Depots
 pub mod Outcome
 pub mod Play
 pub mod Run

@@ -13,6 +13,7 @@ use Rattle.pfc_config.specs.Kind.{kind_text}
 use Rattle.pfc_report.specs.Schedule.{Line, schedule_of, asked, is_asked}
 use Rattle.pfc_report.specs.Report.{ReportView, report_text}
 use Rattle.pfc_report.specs.Caused.{Spent, IsCausedReport}
+use Rattle.pfc_replay.specs.Depots.{DepotCounts, IsListed}
 use Rattle.pfc_replay.specs.Words.{Call, call_of}
 use Rattle.pfc_replay.specs.declared.outcome.Outcome.{Outcome}
 use Rattle.pfc_replay.specs.declared.outcome.Outcome.TheVariants as out
@@ -31,6 +32,7 @@ status_of (out.Fault part) = 3
 abbrev pub part_text : Part → List ℕ
 part_text part.Config = codes "config"
 part_text part.Schedule = codes "schedule"
+part_text part.Depot = codes "depot"
 part_text (part.Link number) = codes "link " ++ decimal number
 
 abbrev pub text_of : Outcome → List ℕ
@@ -65,25 +67,33 @@ pub record IsTaken (given : Asked) (call : Call) (config : Config) : Type 0 wher
 -- the words and the configuration are taken, and the schedule that they name says these lines
 pub record IsPlanned (given : Asked) (call : Call) (config : Config) (lines : List Line) : Type 0 where
   pub taken : IsTaken given call config
-  pub says : SaysOf given call.schedule (λ text. schedule_of text ≡ Ok lines)
+  pub says : SaysOf given call.schedule (λ text. schedule_of config.writers text ≡ Ok lines)
 
--- how far a run had come when this of the host failed; the link is that of a client which is asked something
+-- how far a run had come when this failed; the link is that of a client which is asked something
 abbrev pub Reaches : Asked → Part → Type 0
 Reaches given part.Config = (call : Call) × (call_of given.words ≡ Some call)
 Reaches given part.Schedule = (call : Call) × (config : Config) × IsTaken given call config
+Reaches given part.Depot = (call : Call) × (config : Config) × (lines : List Line) × IsPlanned given call config lines
 Reaches given (part.Link number) = (call : Call) × (config : Config) × (lines : List Line) × IsPlanned given call config lines × IsTrue (is_asked lines number)
 
--- The cause of an outcome, with the counts before and after of the host's faults and of what the clients' links have spent.
-abbrev pub Causes : Bool → Files → Asked → ℕ → ℕ → Spent → Spent → Outcome → Type 0
-Causes told files given host host' before after (out.Report report) =
-    (call : Call) × (config : Config) × (lines : List Line) × IsPlanned given call config lines
-    × IsCausedReport told files config.blocksize lines before after report
-Causes told files given host host' before after out.Usage = call_of given.words ≡ None
-Causes told files given host host' before after (out.Config line kind) =
+-- The count that rose where this failed. The depot is listed before any link is made.
+abbrev pub Failed : Part → ℕ → ℕ → DepotCounts → DepotCounts → Type 0
+Failed part.Config host host' depot depot' = Rose host host'
+Failed part.Schedule host host' depot depot' = Rose host host'
+Failed part.Depot host host' depot depot' = Rose depot.unlisted depot'.unlisted
+Failed (part.Link number) host host' depot depot' = Rose host host' × IsListed depot depot'
+
+-- The cause of an outcome, with the counts before and after of the host's faults, of the depot, and of what the clients' links have spent.
+abbrev pub Causes : Bool → Files → Asked → ℕ → ℕ → DepotCounts → DepotCounts → Spent → Spent → Outcome → Type 0
+Causes told files given host host' depot depot' before after (out.Report report) =
+    (call : Call) × (config : Config) × (lines : List Line) × IsPlanned given call config lines × IsListed depot depot'
+    × IsCausedReport told files config.blocksize lines before after depot.faults depot'.faults report
+Causes told files given host host' depot depot' before after out.Usage = call_of given.words ≡ None
+Causes told files given host host' depot depot' before after (out.Config line kind) =
     (call : Call) × (call_of given.words ≡ Some call) × SaysOf given call.config (λ text. configured text call.capacity ≡ Err (Bad line kind))
-Causes told files given host host' before after (out.Schedule line) =
-    (call : Call) × (config : Config) × IsTaken given call config × SaysOf given call.schedule (λ text. schedule_of text ≡ Err line)
-Causes told files given host host' before after (out.Fault part) = Rose host host' × Reaches given part
+Causes told files given host host' depot depot' before after (out.Schedule line) =
+    (call : Call) × (config : Config) × IsTaken given call config × SaysOf given call.schedule (λ text. schedule_of config.writers text ≡ Err line)
+Causes told files given host host' depot depot' before after (out.Fault part) = Failed part host host' depot depot' × Reaches given part
 
 -- what came to the sink is the text of such an outcome, and its status is the answer
 abbrev pub Writes : (Outcome → Type 0) → ℕ → Bool → List ℕ → List ℕ → Type 0
@@ -99,15 +109,17 @@ ArePlainWhereUnhurt told files lines before after report =
     All (λ c. Stayed (before c.number).1 (after c.number).1 → count_by is_memory c.replies ≡ 0 → ArePlain told files (asked c.number lines) c.replies) report.clients
 
 -- what came to the sink is the text of such a report
-abbrev pub WritesPlain : Bool → Files → Asked → Spent → Spent → Bool → List ℕ → List ℕ → Type 0
-WritesPlain told files given before after sink old new =
+abbrev pub WritesPlain : Bool → Files → Asked → DepotCounts → DepotCounts → Spent → Spent → Bool → List ℕ → List ℕ → Type 0
+WritesPlain told files given depot depot' before after sink old new =
     (report : ReportView) × (call : Call) × (config : Config) × (lines : List Line) × IsPlanned given call config lines
-    × IsCausedReport told files config.blocksize lines before after report × ArePlainWhereUnhurt told files lines before after report
+    × IsCausedReport told files config.blocksize lines before after depot.faults depot'.faults report × ArePlainWhereUnhurt told files lines before after report
     × Appends sink old new (report_text report)
 
--- The host tells its texts, the words, the configuration and the schedule are of the form, and no count rose.
-pub record IsUnhindered (given : Asked) (host host' sink sink' : ℕ) : Type 0 where
+-- The host tells its texts, the words, the configuration and the schedule are of the form, and no count of the host, the depot's
+-- listing or the sink rose.
+pub record IsUnhindered (given : Asked) (host host' : ℕ) (depot depot' : DepotCounts) (sink sink' : ℕ) : Type 0 where
   pub told : IsTrue given.told
   pub call : (call : Call) × (config : Config) × (lines : List Line) × IsPlanned given call config lines
   pub host_stayed : Stayed host host'
+  pub listing_stayed : Stayed depot.unlisted depot'.unlisted
   pub sink_stayed : Stayed sink sink'

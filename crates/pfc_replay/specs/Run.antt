@@ -1,30 +1,54 @@
 -- What running a schedule comes to.
 use Rattle.std.specs.Prelude.{◌≡◌, ℕ, Bool, List, IsTrue, IsSomeAnd, Ok, Err, ⊤}
 use Rattle.pfc_world.specs.Files.{Files, file_at}
-use Rattle.pfc_world.specs.Counts.{Rose}
 use Rattle.pfc_world.specs.Texts.{Texts}
 use Rattle.pfc_report.specs.Schedule.{Line, schedule_of, is_asked}
 use Rattle.pfc_report.specs.Caused.{Spent, IsCausedReport}
+use Rattle.pfc_config.specs.declared.config.Config.{Config}
+use Rattle.pfc_scene.specs.declared.run.Settings.{Settings}
+use Rattle.pfc_replay.specs.Depots.{DepotCounts, IsListed}
+use Rattle.pfc_replay.specs.Outcome.{Failed}
 use Rattle.pfc_replay.specs.declared.outcome.Outcome.{Outcome}
 use Rattle.pfc_replay.specs.declared.outcome.Part.{Part}
 use Rattle.pfc_replay.specs.declared.outcome.Part.TheVariants as part
 use Rattle.pfc_replay.specs.declared.outcome.Outcome.TheVariants as out
 
--- where the texts are told, the schedule of this name says these lines
-abbrev pub Says : Bool → Texts → List ℕ → List Line → Type 0
-Says tells texts name lines = IsTrue tells → IsSomeAnd (file_at texts name) (λ text. schedule_of text ≡ Ok lines)
+-- how a configuration lays a run out
+abbrev pub laid_out : Config → Settings
+laid_out config = record { block_size = config.blocksize; capacity = config.queue; writers = config.writers }
 
--- how far the schedule of this name had come when this of the host failed
-abbrev pub RunsTo : Bool → Texts → List ℕ → Part → Type 0
-RunsTo tells texts name part.Config = ⊥
-RunsTo tells texts name part.Schedule = ⊤
-RunsTo tells texts name (part.Link number) = (lines : List Line) × Says tells texts name lines × IsTrue (is_asked lines number)
+-- The cause of an outcome of these lines, in blocks of k bytes.
+abbrev pub Goes : Bool → Files → ℕ → List Line → ℕ → ℕ → DepotCounts → DepotCounts → Spent → Spent → Outcome → Type 0
+Goes told files k lines host host' depot depot' before after (out.Report report) =
+    IsListed depot depot' × IsCausedReport told files k lines before after depot.faults depot'.faults report
+Goes told files k lines host host' depot depot' before after (out.Fault part.Depot) = Failed part.Depot host host' depot depot'
+Goes told files k lines host host' depot depot' before after (out.Fault (part.Link number)) =
+    Failed (part.Link number) host host' depot depot' × IsTrue (is_asked lines number)
+Goes told files k lines host host' depot depot' before after (out.Fault part.Config) = ⊥
+Goes told files k lines host host' depot depot' before after (out.Fault part.Schedule) = ⊥
+Goes told files k lines host host' depot depot' before after (out.Schedule line) = ⊥
+Goes told files k lines host host' depot depot' before after out.Usage = ⊥
+Goes told files k lines host host' depot depot' before after (out.Config line kind) = ⊥
 
--- The cause of an outcome of the schedule of this name, with blocks of k bytes.
-abbrev pub Runs : Bool → Files → ℕ → Bool → Texts → List ℕ → ℕ → ℕ → Spent → Spent → Outcome → Type 0
-Runs told files k tells texts name host host' before after (out.Report report) =
-    (lines : List Line) × Says tells texts name lines × IsCausedReport told files k lines before after report
-Runs told files k tells texts name host host' before after (out.Schedule line) = IsTrue tells → IsSomeAnd (file_at texts name) (λ text. schedule_of text ≡ Err line)
-Runs told files k tells texts name host host' before after (out.Fault part) = Rose host host' × RunsTo tells texts name part
-Runs told files k tells texts name host host' before after out.Usage = ⊥
-Runs told files k tells texts name host host' before after (out.Config line kind) = ⊥
+-- where the texts are told, the schedule of this name says these lines to so many writers
+abbrev pub Says : ℕ → Bool → Texts → List ℕ → List Line → Type 0
+Says writers tells texts name lines = IsTrue tells → IsSomeAnd (file_at texts name) (λ text. schedule_of writers text ≡ Ok lines)
+
+-- how far the schedule of this name had come when this failed
+abbrev pub RunsTo : ℕ → Bool → Texts → List ℕ → Part → Type 0
+RunsTo writers tells texts name part.Config = ⊥
+RunsTo writers tells texts name part.Schedule = ⊤
+RunsTo writers tells texts name part.Depot = (lines : List Line) × Says writers tells texts name lines
+RunsTo writers tells texts name (part.Link number) = (lines : List Line) × Says writers tells texts name lines × IsTrue (is_asked lines number)
+
+-- The cause of an outcome of the schedule of this name.
+abbrev pub Runs : Bool → Files → Settings → Bool → Texts → List ℕ → ℕ → ℕ → DepotCounts → DepotCounts → Spent → Spent → Outcome → Type 0
+Runs told files settings tells texts name host host' depot depot' before after (out.Report report) =
+    (lines : List Line) × Says settings.writers tells texts name lines × IsListed depot depot'
+    × IsCausedReport told files settings.block_size lines before after depot.faults depot'.faults report
+Runs told files settings tells texts name host host' depot depot' before after (out.Schedule line) =
+    IsTrue tells → IsSomeAnd (file_at texts name) (λ text. schedule_of settings.writers text ≡ Err line)
+Runs told files settings tells texts name host host' depot depot' before after (out.Fault part) =
+    Failed part host host' depot depot' × RunsTo settings.writers tells texts name part
+Runs told files settings tells texts name host host' depot depot' before after out.Usage = ⊥
+Runs told files settings tells texts name host host' depot depot' before after (out.Config line kind) = ⊥

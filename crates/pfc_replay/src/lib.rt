@@ -10,6 +10,10 @@ mod write;
 pub use replay::run_replay;
 
 #[cfg(test)]
+mod disk_cases;
+#[cfg(test)]
+mod outside;
+#[cfg(test)]
 mod shared_cases;
 #[cfg(test)]
 mod tests;

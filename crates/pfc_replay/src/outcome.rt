@@ -4,13 +4,15 @@ ghost use Rattle.pfc_replay.specs.Outcome.{outcome_of, status_of};
 use pfc_config::{ConfigRefusal, Kind};
 use pfc_report::Report;
 
-/// What of the host failed.
+/// What of the outside failed.
 #[derive(Clone, Copy, Debug, PartialEq, Eq)]
 pub enum Part {
     /// The configuration's source.
     Config,
     /// The schedule's source.
     Schedule,
+    /// The listing of the depot.
+    Depot,
     /// The link of this number.
     Link(u32),
 }
@@ -26,7 +28,7 @@ pub enum Outcome {
     Config { line: u32, kind: Kind },
     /// The schedule is refused for this line, 0 for its length.
     Schedule { line: u64 },
-    /// The host failed.
+    /// The outside failed.
     Fault(Part),
 }
 

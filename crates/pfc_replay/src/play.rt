@@ -1,14 +1,16 @@
-ghost use Rattle.std.specs.Prelude.{◌≡◌, ◌++◌, [], ◌∷◌, ℕ, ◌+◌, ◌<◌, ◌≤◌, All, map, vec_len, vec_capacity, IfOk, IfErr, OnOk, OnErr, if◌then◌else◌};
+ghost use Rattle.std.specs.Prelude.{◌≡◌, ◌++◌, [], ◌∷◌, ℕ, ◌+◌, ◌<◌, ◌≤◌, All, map, vec_len, vec_capacity, IfOk, IfErr, OnOk, OnErr, IsTrue, if◌then◌else◌};
+ghost use Rattle.pfc_base.specs.Cinfo.{IsBlockSize};
 ghost use Rattle.pfc_report.specs.Schedule.{asked_clients, is_asked};
 ghost use Rattle.pfc_report.specs.Spent.{rows_of, spent_by, nothing_spent};
 ghost use Rattle.pfc_report.specs.Caused.{IsCausedReport};
+ghost use Rattle.pfc_actor.specs.Backings.{IsSoundAtHome};
 ghost use Rattle.pfc_replay.specs.Play.{fresh_rows, given_back, StopsAt, StopsBy};
 ghost use Rattle.pfc_replay.specs.declared.play.PlayRefusal.TheVariants as stop;
 
 use pfc_base::Memory;
 use pfc_report::{CLIENTS, Plan, Report};
-use pfc_scene::run_scene;
-use pfc_world::{Host, Origin, Refusal, World};
+use pfc_scene::{Settings, run_scene};
+use pfc_world::{Clock, Depot, Host, Origin, Refusal, World};
 use std::alloc::{AllocError, Global};
 
 /// Why a plan isn't run to its end.
@@ -98,20 +100,27 @@ fn give_back<W: World, H: Host<W>>(host: &mut H, links: Vec<H::Link>)
 }
 
 /// Runs a plan over links that were made for it, and gives them back.
-fn play_over<W: World, H: Host<W>>(
+fn play_over<W: World, H: Host<W>, P: Depot<W>, K: Clock>(
     alloc: Global,
     host: &mut H,
+    depot: &mut P,
+    clock: &mut K,
     links: Vec<H::Link>,
     plan: &Plan<'_>,
-    block_size: u64,
+    settings: Settings,
 ) -> Result<Report, PlayRefusal>
-    requires least { 4096 ≤ block_size }
-    requires most { block_size ≤ 16777216 }
+    requires told { IsTrue W.told → IsTrue P.Data.told }
+    requires block_size { IsBlockSize settings.block_size }
     requires fresh { rows_of H.Link.number H.Link.calls H.Link.faults links.items ≡ fresh_rows (asked_clients plan.now) }
-    ensures caused { IfOk result (IsCausedReport W.told W.files block_size plan.now (H.spent host.old) (H.spent host.new)) }
+    requires home { P.out depot.old ≡ [] }
+    requires sound { IsSoundAtHome W.told P.Data.told W.files (P.home_data depot.old) (P.home_main depot.old) }
+    ensures caused { IfOk result (IsCausedReport W.told W.files settings.block_size plan.now (H.spent host.old) (H.spent host.new) (P.faults depot.old) (P.faults depot.new)) }
     ensures memory { IfErr result (λ refusal. refusal ≡ stop.Memory) }
+    ensures home { P.out depot.new ≡ [] }
+    ensures sound { IsSoundAtHome W.told P.Data.told W.files (P.home_data depot.new) (P.home_main depot.new) }
+    ensures unlisted { P.unlisted depot.new ≡ P.unlisted depot.old }
 {
-    let (links, report) = run_scene::<W, H::Link>(alloc, links, plan, block_size);
+    let (links, report) = run_scene::<W, H::Link, P, K>(alloc, links, plan, depot, clock, settings);
     give_back::<W, H>(host, links);
     match report {
         Ok(report) => Ok(report),
@@ -119,22 +128,29 @@ fn play_over<W: World, H: Host<W>>(
     }
 }
 
-/// Runs a plan, with files in blocks of so many bytes. The links of all clients that it asks anything are made first, in
-/// order of number, and go back to the host whatever comes.
-pub fn play<W: World, H: Host<W>>(
+/// Runs a plan over the volumes of a depot. The links of all clients that it asks anything are made first, in order of number,
+/// and go back to the host whatever comes; so do the volumes to the depot.
+pub fn play<W: World, H: Host<W>, P: Depot<W>, K: Clock>(
     alloc: Global,
     host: &mut H,
+    depot: &mut P,
+    clock: &mut K,
     plan: &Plan<'_>,
-    block_size: u64,
+    settings: Settings,
 ) -> Result<Report, PlayRefusal>
-    requires least { 4096 ≤ block_size }
-    requires most { block_size ≤ 16777216 }
-    ensures caused { IfOk result (IsCausedReport W.told W.files block_size plan.now (H.spent host.old) (H.spent host.new)) }
+    requires told { IsTrue W.told → IsTrue P.Data.told }
+    requires block_size { IsBlockSize settings.block_size }
+    requires home { P.out depot.old ≡ [] }
+    requires sound { IsSoundAtHome W.told P.Data.told W.files (P.home_data depot.old) (P.home_main depot.old) }
+    ensures caused { IfOk result (IsCausedReport W.told W.files settings.block_size plan.now (H.spent host.old) (H.spent host.new) (P.faults depot.old) (P.faults depot.new)) }
     ensures refused { IfErr result (StopsBy plan.now (H.faults host.old) (H.faults host.new)) }
+    ensures home { P.out depot.new ≡ [] }
+    ensures sound { IsSoundAtHome W.told P.Data.told W.files (P.home_data depot.new) (P.home_main depot.new) }
+    ensures unlisted { P.unlisted depot.new ≡ P.unlisted depot.old }
 {
     let mut links = Vec::with_capacity(alloc, CLIENTS)?;
     match add_links::<W, H>(alloc, host, plan, &mut links) {
-        Ok(()) => play_over::<W, H>(alloc, host, links, plan, block_size),
+        Ok(()) => play_over::<W, H, P, K>(alloc, host, depot, clock, links, plan, settings),
         Err(refusal) => {
             give_back::<W, H>(host, links);
             Err(refusal)

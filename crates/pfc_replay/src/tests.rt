@@ -1,6 +1,7 @@
 //! Runs over the world of rows, in which byte j of each file is j modulo 251: `/a` has 8193 bytes, `/e` none.
+use crate::outside::{ShutDepot, empty_depot, host_of, run_over, words_of};
 use crate::run_replay;
-use pfc_memory::{MemoryHost, RowWorld, VecSink};
+use pfc_memory::{ListClock, MemoryHost, RowWorld, VecSink};
 use std::alloc::Global;
 use std::test::Fail;
 
@@ -26,28 +27,15 @@ fn play(
     case: &Case,
     writes: &[u64],
 ) -> Result<(u8, String, (u64, u64)), Fail> {
-    let mut texts = Vec::new(alloc);
-    texts.push((
-        String::from_str(alloc, "config")?,
-        Vec::from_slice(alloc, case.config.as_bytes())?,
-    ))?;
-    texts.push((
-        String::from_str(alloc, "schedule")?,
-        Vec::from_slice(alloc, case.schedule.as_bytes())?,
-    ))?;
     let mut fails = Vec::new(alloc);
     for call in case.fails {
         fails.push((1, *call))?;
     }
-    let mut host: MemoryHost<RowWorld> = MemoryHost::new(alloc, texts, fails, Vec::new(alloc))?;
+    let mut host = host_of(alloc, case.config, case.schedule, &fails)?;
+    let mut depot = empty_depot(alloc, &[], None)?;
     let mut out = VecSink::new(alloc, Vec::from_slice(alloc, writes)?);
-    let mut named = Vec::new(alloc);
-    for word in words.split(' ') {
-        named.push(String::from_str(alloc, word)?)?;
-    }
-    let status = run_replay::<RowWorld, MemoryHost<RowWorld>, VecSink>(
-        alloc, &named, &mut host, &mut out,
-    );
+    let named = words_of(alloc, words)?;
+    let status = run_over(alloc, &named, &mut host, &mut depot, &mut out);
     let text = String::from_utf8(Vec::from_slice(alloc, out.bytes())?)
         .ok()
         .ok_or("text")?;
@@ -228,6 +216,15 @@ const CASES: &[Case] = &[
         spent: (0, 0),
     },
     Case {
+        shows: "a schedule names no writer past those of the configuration",
+        config: "pfc.blocksize 4k\npfc.writequeue 16 3\n",
+        schedule: "write 3 2\nwrite 4 1\n",
+        fails: &[],
+        status: 2,
+        text: "schedule 2\n",
+        spent: (0, 0),
+    },
+    Case {
         shows: "a larger block size asks the origin less often",
         config: "pfc.blocksize 8k\n",
         schedule: "ask 1 open 0 /a\nask 1 read 0 4095 2\n",
@@ -298,6 +295,28 @@ fn a_source_that_the_host_does_not_have_is_a_fault(rt: HostRuntime) -> Result<()
     let (status, text, _) = play(rt.alloc(), "config origin cache 1000 nothing", &QUIET, &[])?;
     assert_eq!(rt; status, 3);
     assert_eq!(rt; text.as_str(), "fault schedule\n");
+    Ok(())
+}
+
+#[test]
+fn a_depot_that_is_not_listed_is_a_fault(rt: HostRuntime) -> Result<(), Fail> {
+    let alloc = rt.alloc();
+    let words = words_of(alloc, "config origin cache 1000 schedule")?;
+    for (schedule, status, text) in [
+        ("ask 1 open 0 /a\n", 3, "fault depot\n"),
+        ("go 65\n", 2, "schedule 1\n"),
+    ] {
+        let mut host = host_of(alloc, CONFIG, schedule, &[])?;
+        let mut depot = ShutDepot::new();
+        let mut clock = ListClock::new(Vec::new(alloc));
+        let mut out = VecSink::new(alloc, Vec::new(alloc));
+        let answer = run_replay::<RowWorld, MemoryHost<RowWorld>, ShutDepot, ListClock, VecSink>(
+            alloc, &words, &mut host, &mut depot, &mut clock, &mut out,
+        );
+        assert_eq!(rt; answer, status);
+        assert_eq!(rt; out.bytes(), text.as_bytes());
+        assert_eq!(rt; host.spent(1), (0, 0));
+    }
     Ok(())
 }
 

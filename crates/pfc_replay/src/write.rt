@@ -178,6 +178,7 @@ fn push_part(alloc: Global, text: &mut Vec<u8>, part: Part) -> Result<(), Memory
     match part {
         Part::Config => push_word(text, b"config"),
         Part::Schedule => push_word(text, b"schedule"),
+        Part::Depot => push_word(text, b"depot"),
         Part::Link(number) => {
             push_word(text, b"link ")?;
             push_number(alloc, text, u64::from(number))
@@ -185,7 +186,7 @@ fn push_part(alloc: Global, text: &mut Vec<u8>, part: Part) -> Result<(), Memory
     }
 }
 
-/// Writes what of the host failed.
+/// Writes what of the outside failed.
 fn write_fault<S: Sink>(alloc: Global, out: &mut S, part: Part) -> Result<(), Refusal>
     ensures ok { OnOk result (Appends S.told (S.written out.old) (S.written out.new) (text_of (outcome.Fault part))) }
     ensures front { AppendsFront S.told (S.written out.old) (S.written out.new) (text_of (outcome.Fault part)) }

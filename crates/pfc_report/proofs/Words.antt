@@ -4,7 +4,7 @@ use Rattle.std.specs.Prelude.{◌==◌, Option, Some, None, if◌then◌else◌}
 use Rattle.std.specs.List.{join_with_byte}
 use Rattle.std.proofs.lemmas.Bool.Decides.{nat_tests}
 use Rattle.pfc_base.specs.Pieces.{pieces_of, pieces_of-some, onto}
-use Rattle.pfc_report.specs.Schedule.{Ask, asking, going}
+use Rattle.pfc_report.specs.Schedule.{Line, Ask, asking, stepping}
 
 same-number : (a b : ℕ) → (a == b) ≡ true → a ≡ b
 same-number a b is = grind (arith, nat_tests, is)
@@ -37,6 +37,6 @@ asking-rest n rest = let some = pieces_of-some 32 rest in
 pub asking-some : (o : Option ℕ) (n : ℕ) (words : List (List ℕ)) (rest : List ℕ) → Some n ≡ o → words ≡ pieces_of 32 rest → Some (Ask n rest) ≡ asking o words
 asking-some o n words rest some is = rw (← some, is) (sym (asking-rest n rest))
 
--- a `go` line with a word too many
-pub going-long : (n : ℕ) (words : List (List ℕ)) (k rest : List ℕ) → words ≡ k ∷ pieces_of 32 rest → going (Some n) words ≡ None
-going-long n words k rest is = let some = pieces_of-some 32 rest in rw (is, some.2) refl
+-- a line of steps with a word too many
+pub stepping-long : (line : ℕ → ℕ → Line) (n : ℕ) (words : List (List ℕ)) (k rest : List ℕ) → words ≡ k ∷ pieces_of 32 rest → stepping line (Some n) words ≡ None
+stepping-long line n words k rest is = let some = pieces_of-some 32 rest in rw (is, some.2) refl

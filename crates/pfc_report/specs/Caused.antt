@@ -1,14 +1,16 @@
 -- Which reports are caused: what may be reported of a schedule, where the counts of the clients' links were these and are those.
-use Rattle.std.specs.Prelude.{◌≡◌, ◌≢◌, ℕ, ◌+◌, ◌*◌, ◌<◌, ◌≤◌, Bool, false, List, [], length, map, All, AllPairs, sum_by, Option, Some, None}
-use Rattle.pfc_base.specs.BlockSet.{is_member}
+use Rattle.std.specs.Prelude.{◌≡◌, ◌≢◌, ℕ, ◌+◌, ◌*◌, ◌<◌, ◌≤◌, Bool, List, [], length, map, All, AllPairs, sum_by, Option, Some, None}
 use Rattle.pfc_world.specs.Files.{Files, HasSize}
 use Rattle.pfc_world.specs.Counts.{RoseBy, last_count}
 use Rattle.pfc_client.specs.declared.reply.Reply.{Reply}
 use Rattle.pfc_client.specs.Permitted.{ArePermitted}
 use Rattle.pfc_client.specs.Told.{stats, lost, opens, reads, bytes}
 use Rattle.pfc_base.specs.Block.{count_of}
+use Rattle.pfc_log.specs.Charges.{charges, is_there}
 use Rattle.pfc_log.specs.Uncaching.{cause_of}
+use Rattle.pfc_log.specs.Views.{times}
 use Rattle.pfc_log.specs.declared.entry.Uncached.{Uncached}
+use Rattle.pfc_log.specs.declared.entry.Uncached.TheVariants.{Volume}
 use Rattle.pfc_log.specs.declared.start.Start.{Start}
 use Rattle.pfc_log.specs.declared.start.Start.TheVariants as start
 use Rattle.pfc_log.specs.Lawful.{IsComplete, IsCached}
@@ -34,31 +36,31 @@ over count n logs = sum_by (λ section. count (tally_in n section)) logs
 
 -- ---- the parts
 
--- the log starts with a store that has no block
-abbrev pub StartsEmpty : Start → Type 0
-StartsEmpty (start.Stored set) = (i : ℕ) → is_member set i ≡ false
-StartsEmpty (start.Uncached why) = ⊥
+-- How the log of a file with so many blocks starts: with a set of them, or without a store since its volume couldn't be had;
+-- where there is a cause by which it isn't cached, with that.
+abbrev pub StartsFor : Option Uncached → ℕ → Start → Type 0
+StartsFor None blocks (start.Stored set) = length set ≡ blocks
+StartsFor None blocks (start.Uncached why) = why ≡ Volume
+StartsFor (Some why) blocks first = first ≡ start.Uncached why
 
--- without a store for this cause, if there is one
-abbrev pub StartsFor : Option Uncached → Start → Type 0
-StartsFor None first = StartsEmpty first
-StartsFor (Some why) first = first ≡ start.Uncached why
-
--- The file is cached unless its path or its size says otherwise. The size is the origin's where the world tells it.
+-- The file is cached unless its path, its size or a failing disk says otherwise. The size is the origin's where the world
+-- tells it.
 pub record StartsRight (told : Bool) (files : Files) (k : ℕ) (path : List ℕ) (first : Start) : Type 0 where
   pub size : ℕ
   pub right : HasSize told files path size
-  pub start : StartsFor (cause_of path (count_of size k)) first
+  pub start : StartsFor (cause_of path (count_of size k)) (count_of size k) first
 
 -- those that were asked anything were told, in order of number, a reply to each request
 pub record AreTold (lines : List Line) (clients : List Told) : Type 0 where
   pub numbers : map (λ told. told.number) clients ≡ asked_clients lines
   pub each : All (λ told. length told.replies ≡ length (asked told.number lines)) clients
 
--- Each log is lawful to its end, at which nothing is in flight or in memory and each open was closed. Each path has at most one
--- log that starts with a store. No log starts with a block, and those of files that aren't cached start with the cause.
+-- Each log is lawful to its end, at which nothing is in flight or in memory and each open was closed, and no block was on disk
+-- as it was to be written. Each path has at most one log that starts with a store. Logs of files that aren't cached start with
+-- the cause.
 pub record AreComplete (told : Bool) (files : Files) (k : ℕ) (logs : List Section) : Type 0 where
   pub complete : All (λ section. IsComplete section.log.first section.log.entries) logs
+  pub theres : All (λ section. times is_there section.log.entries ≡ 0) logs
   pub paths : AllPairs (λ section other. IsCached section.log.first → IsCached other.log.first → section.path ≢ other.path) logs
   pub starts : All (λ section. StartsRight told files k section.path section.log.first) logs
 
@@ -99,12 +101,20 @@ pub record IsUnasked (n : ℕ) (logs : List Section) (before after : ℕ × ℕ)
   pub spent : after ≡ before
   pub logged : All (λ section. tally_in n section ≡ nothing) logs
 
--- The report is caused: of files of this world, in blocks of k bytes, for what the schedule says.
-pub record IsCausedReport (told : Bool) (files : Files) (k : ℕ) (lines : List Line) (before after : Spent) (report : ReportView) : Type 0 where
+-- Failed calls of devices and of the depot that the logs show: no more of them than the depot's count of faults rose. A volume that
+-- couldn't be had is one, and a store that froze; and a direct read of a block on disk, unless the store was frozen by then and
+-- the block not durable.
+abbrev pub AreDiskFailures : List Section → ℕ → ℕ → Type 0
+AreDiskFailures logs before after = RoseBy before (sum_by (λ section. charges section.log.first section.log.entries) logs) after
+
+-- The report is caused: of files of this world, in blocks of k bytes, for what the schedule says. The counts of the clients' links were and are
+-- these, and the depot's count of faults was and is.
+pub record IsCausedReport (told : Bool) (files : Files) (k : ℕ) (lines : List Line) (before after : Spent) (faults faults' : ℕ) (report : ReportView) : Type 0 where
   pub clients : AreTold lines report.clients
   pub permitted : All (λ c. ArePermitted told files (asked c.number lines) c.replies (before c.number).1 (after c.number).1) report.clients
   pub complete : AreComplete told files k report.logs
   pub calls : All (λ c. AreItsCalls c.number (asked c.number lines) c.replies report.logs (before c.number).0 (after c.number).0) report.clients
   pub served : All (λ c. IsServed k c.number c.replies report.logs) report.clients
   pub failed : All (λ c. AreItsFailures c.number (asked c.number lines) c.replies report.logs (before c.number).1 (after c.number).1) report.clients
+  pub disk : AreDiskFailures report.logs faults faults'
   pub others : (n : ℕ) → asked n lines ≡ [] → IsUnasked n report.logs (before n) (after n)

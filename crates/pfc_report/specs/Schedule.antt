@@ -5,10 +5,11 @@ use Rattle.pfc_base.specs.Pieces.{pieces_of}
 use Rattle.pfc_base.specs.Number.{decimal_of}
 use Rattle.pfc_client.specs.Requests.{is_word}
 
--- A line that does something: it adds a request to those of a client, or a client makes so many steps.
+-- A line that does something: it adds a request to those of a client, or a client or a writer makes so many steps.
 pub data Line : Type 0 where
   Ask : (client : ℕ) (rest : List ℕ) → Line
   Go : (client times : ℕ) → Line
+  Write : (writer times : ℕ) → Line
 
 -- the decimal that a word spells, where it lies from 1 to this
 abbrev pub decimal_to : ℕ → List ℕ → Option ℕ
@@ -26,26 +27,27 @@ asking None words = None
 asking (Some n) [] = None
 asking (Some n) (word ∷ words) = Some (Ask n (join_with_byte 32 (word ∷ words)))
 
--- `go <n>` or `go <n> <k>`
-abbrev pub going : Option ℕ → List (List ℕ) → Option Line
-going None words = None
-going (Some n) [] = Some (Go n 1)
-going (Some n) (k ∷ []) = option_map (Go n) (times_of k)
-going (Some n) (k ∷ other ∷ words) = None
+-- who steps, alone or with how often
+abbrev pub stepping : (ℕ → ℕ → Line) → Option ℕ → List (List ℕ) → Option Line
+stepping line None words = None
+stepping line (Some n) [] = Some (line n 1)
+stepping line (Some n) (k ∷ []) = option_map (line n) (times_of k)
+stepping line (Some n) (k ∷ other ∷ words) = None
 
--- the line of these words, if they have a line's form
-abbrev pub line_by : List (List ℕ) → Option Line
-line_by [] = None
-line_by (verb ∷ []) = None
-line_by (verb ∷ number ∷ words) =
+-- the line of these words, if they have a line's form, where there are so many writers
+abbrev pub line_by : ℕ → List (List ℕ) → Option Line
+line_by writers [] = None
+line_by writers (verb ∷ []) = None
+line_by writers (verb ∷ number ∷ words) =
     if is_word verb (codes "ask") then asking (client_of number) words
-    else if is_word verb (codes "go") then going (client_of number) words
+    else if is_word verb (codes "go") then stepping Go (client_of number) words
+    else if is_word verb (codes "write") then stepping Write (decimal_to writers number) words
     else None
 
 -- what one line says: nothing where it is empty or a remark, one thing, or it has no line's form
-abbrev pub said_by : List ℕ → Option (List Line)
-said_by [] = Some []
-said_by (b ∷ bs) = if b == 35 then Some [] else option_map (λ line. line ∷ []) (line_by (pieces_of 32 (b ∷ bs)))
+abbrev pub said_by : ℕ → List ℕ → Option (List Line)
+said_by writers [] = Some []
+said_by writers (b ∷ bs) = if b == 35 then Some [] else option_map (λ line. line ∷ []) (line_by writers (pieces_of 32 (b ∷ bs)))
 
 -- what a line says before those behind it; the first line without a form counts
 abbrev pub said_first : ℕ → Option (List Line) → Result (List Line) ℕ → Result (List Line) ℕ
@@ -54,17 +56,17 @@ said_first number (Some said) (Ok lines) = Ok (said ++ lines)
 said_first number (Some said) (Err bad) = Err bad
 
 -- what the lines from this number on say, or the number of the first without a form
-abbrev pub all_said : ℕ → List (List ℕ) → Result (List Line) ℕ
-all_said number [] = Ok []
-all_said number (line ∷ lines) = said_first number (said_by line) (all_said (number + 1) lines)
+abbrev pub all_said : ℕ → ℕ → List (List ℕ) → Result (List Line) ℕ
+all_said writers number [] = Ok []
+all_said writers number (line ∷ lines) = said_first number (said_by writers line) (all_said writers (number + 1) lines)
 
 -- a schedule has at most 67108864 bytes
 abbrev pub schedule_limit : ℕ
 schedule_limit = 67108864
 
--- What a whole schedule says, or the number of its first bad line, from 1 on; 0 for its length.
-unfoldable pub schedule_of : List ℕ → Result (List Line) ℕ
-schedule_of text = if nat_lt schedule_limit (length text) then Err 0 else all_said 1 (pieces_of 10 text)
+-- What a whole schedule says, where there are so many writers, or the number of its first bad line, from 1 on; 0 for its length.
+unfoldable pub schedule_of : ℕ → List ℕ → Result (List Line) ℕ
+schedule_of writers text = if nat_lt schedule_limit (length text) then Err 0 else all_said writers 1 (pieces_of 10 text)
 
 -- ---- what clients are asked
 
@@ -72,6 +74,7 @@ schedule_of text = if nat_lt schedule_limit (length text) then Err 0 else all_sa
 abbrev pub request_for : ℕ → Line → Option (List ℕ)
 request_for n (Ask m rest) = if m == n then Some rest else None
 request_for n (Go m times) = None
+request_for n (Write w times) = None
 
 -- what client n is asked, in order
 abbrev pub asked : ℕ → List Line → List (List ℕ)

@@ -1,6 +1,6 @@
 ghost use Rattle.std.specs.Prelude.{◌≡◌, ℕ, ◌++◌, [], ◌<◌, ◌≤◌, length, option_map, map, Some, Ok, Err, IfOk, IfErr, OnOk, false, ◌||◌, is_some, slice_index_or};
 ghost use Rattle.pfc_base.specs.Pieces.{pieces_of};
-ghost use Rattle.pfc_report.specs.Schedule.{Go, decimal_to, client_of, asking, going, line_by, said_by, said_first, all_said, schedule_of, is_asked, request_for};
+ghost use Rattle.pfc_report.specs.Schedule.{Line, decimal_to, client_of, asking, stepping, line_by, said_by, said_first, all_said, schedule_of, is_asked, request_for};
 ghost use Rattle.pfc_report.specs.Plan.{line_of, words_behind, Refuses};
 ghost use Rattle.pfc_report.specs.declared.schedule.ScheduleRefusal.TheVariants as refusal;
 
@@ -21,6 +21,8 @@ pub enum Step<'a> {
     Ask { client: u32, rest: &'a [u8] },
     /// The client makes so many steps, from 1 to 10000.
     Go { client: u32, times: u32 },
+    /// The writer, from 1 on, makes so many steps, from 1 to 10000.
+    Write { writer: u32, times: u32 },
 }
 
 /// What a schedule says, in order. Contracts see the list of its lines that do something.
@@ -91,6 +93,7 @@ fn mark_asked(marks: &mut [bool], step: &Step<'_>)
 {
     match step {
         Step::Go { .. } => (),
+        Step::Write { .. } => (),
         Step::Ask { client, .. } => {
             if *client < 65 {
                 marks[*client as usize] = true;
@@ -130,9 +133,9 @@ fn read_ask<'a>(number: &[u8], behind: Option<&'a [u8]>) -> Option<Step<'a>>
     }
 }
 
-/// How often a `go` line steps, by what stands behind the space after the client's number.
+/// How often somebody steps, by what stands behind the space after their number.
 fn read_times(behind: &[u8]) -> Option<u32>
-    ensures { (n : ℕ) → option_map (Go n) result ≡ going (Some n) (pieces_of 32 behind.now) }
+    ensures { (line : ℕ → ℕ → Line) (n : ℕ) → option_map (line n) result ≡ stepping line (Some n) (pieces_of 32 behind.now) }
 {
     let (times, more) = next_piece(behind, b' ');
     match more {
@@ -141,27 +144,27 @@ fn read_times(behind: &[u8]) -> Option<u32>
     }
 }
 
-/// What a `go` line says, by its number and what stands behind the space after it.
-fn read_go<'a>(number: &[u8], behind: Option<&[u8]>) -> Option<Step<'a>>
-    ensures { option_map line_of result ≡ going (client_of number.now) (words_behind (option_map (λ rest. rest.now) behind.entry)) }
+/// Who steps, from 1 to `most`, and how often: by their number and what stands behind the space after it.
+fn read_steps(number: &[u8], most: u32, behind: Option<&[u8]>) -> Option<(u32, u32)>
+    ensures { (line : ℕ → ℕ → Line) → option_map (λ steps. line steps.0 steps.1) result ≡ stepping line (decimal_to most number.now) (words_behind (option_map (λ rest. rest.now) behind.entry)) }
 {
-    let client = match number_to(number, 64) {
+    let who = match number_to(number, most) {
         None => return None,
-        Some(client) => client,
+        Some(who) => who,
     };
     let behind = match behind {
-        None => return Some(Step::Go { client, times: 1 }),
+        None => return Some((who, 1)),
         Some(behind) => behind,
     };
     match read_times(behind) {
         None => None,
-        Some(times) => Some(Step::Go { client, times }),
+        Some(times) => Some((who, times)),
     }
 }
 
 /// What a line says that isn't passed over, by its words.
-fn read_step(line: &[u8]) -> Option<Step<'_>>
-    ensures { option_map line_of result ≡ line_by (pieces_of 32 line.now) }
+fn read_step(line: &[u8], writers: u32) -> Option<Step<'_>>
+    ensures { option_map line_of result ≡ line_by writers (pieces_of 32 line.now) }
 {
     let (verb, behind) = next_piece(line, b' ');
     let behind = match behind {
@@ -173,7 +176,16 @@ fn read_step(line: &[u8]) -> Option<Step<'_>>
         return read_ask(number, words);
     }
     if verb == b"go".as_slice() {
-        return read_go(number, words);
+        return match read_steps(number, 64, words) {
+            None => None,
+            Some((client, times)) => Some(Step::Go { client, times }),
+        };
+    }
+    if verb == b"write".as_slice() {
+        return match read_steps(number, writers, words) {
+            None => None,
+            Some((writer, times)) => Some(Step::Write { writer, times }),
+        };
     }
     None
 }
@@ -183,9 +195,10 @@ fn read_line<'a>(
     steps: &mut Vec<Step<'a>>,
     line: &'a [u8],
     number: u64,
+    writers: u32,
 ) -> Result<(), ScheduleRefusal>
-    ensures ok { OnOk result (option_map (λ said. map line_of steps.old.items ++ said) (said_by line.now) ≡ Some (map line_of steps.new.items)) }
-    ensures err { IfErr result (λ refusal. Refuses refusal (said_first number (said_by line.now) (Ok []))) }
+    ensures ok { OnOk result (option_map (λ said. map line_of steps.old.items ++ said) (said_by writers line.now) ≡ Some (map line_of steps.new.items)) }
+    ensures err { IfErr result (λ refusal. Refuses refusal (said_first number (said_by writers line.now) (Ok []))) }
 {
     let first = match line.first() {
         None => return Ok(()),
@@ -194,7 +207,7 @@ fn read_line<'a>(
     if first == b'#' {
         return Ok(());
     }
-    match read_step(line) {
+    match read_step(line, writers) {
         None => Err(ScheduleRefusal::Bad { line: number }),
         Some(step) => {
             steps.push(step)?;
@@ -204,17 +217,17 @@ fn read_line<'a>(
 }
 
 /// What the lines of a text say, or the first line without a form.
-fn read_lines(alloc: Global, text: &[u8]) -> Result<Vec<Step<'_>>, ScheduleRefusal>
+fn read_lines(alloc: Global, text: &[u8], writers: u32) -> Result<Vec<Step<'_>>, ScheduleRefusal>
     requires { length text.now ≤ 67108864 }
-    ensures ok { IfOk result (λ steps. all_said 1 (pieces_of 10 text.now) ≡ Ok (map line_of steps.items)) }
-    ensures err { IfErr result (λ refusal. Refuses refusal (all_said 1 (pieces_of 10 text.now))) }
+    ensures ok { IfOk result (λ steps. all_said writers 1 (pieces_of 10 text.now) ≡ Ok (map line_of steps.items)) }
+    ensures err { IfErr result (λ refusal. Refuses refusal (all_said writers 1 (pieces_of 10 text.now))) }
 {
     let mut steps = Vec::new(alloc);
     let mut rest = text;
     let mut number = 1u64;
     'lines: loop {
         let (line, more) = next_piece(rest, b'\n');
-        read_line(&mut steps, line, number)?;
+        read_line(&mut steps, line, number, writers)?;
         match more {
             None => return Ok(steps),
             Some(after) => {
@@ -225,15 +238,16 @@ fn read_lines(alloc: Global, text: &[u8]) -> Result<Vec<Step<'_>>, ScheduleRefus
     }
 }
 
-/// What a schedule says. Refused for its first line without a form, or for more than 67108864 bytes.
-pub fn read_schedule(alloc: Global, text: &[u8]) -> Result<Plan<'_>, ScheduleRefusal>
-    ensures ok { IfOk result (λ plan. schedule_of text.now ≡ Ok plan) }
-    ensures err { IfErr result (λ refusal. Refuses refusal (schedule_of text.now)) }
+/// What a schedule says, where the writers are numbered from 1 to `writers`. Refused for its first line without a form, or
+/// for more than 67108864 bytes.
+pub fn read_schedule(alloc: Global, text: &[u8], writers: u32) -> Result<Plan<'_>, ScheduleRefusal>
+    ensures ok { IfOk result (λ plan. schedule_of writers text.now ≡ Ok plan) }
+    ensures err { IfErr result (λ refusal. Refuses refusal (schedule_of writers text.now)) }
 {
     if text.len() > SCHEDULE_LIMIT {
         return Err(ScheduleRefusal::Bad { line: 0 });
     }
-    match read_lines(alloc, text) {
+    match read_lines(alloc, text, writers) {
         Ok(steps) => Ok(Plan { steps }),
         Err(refusal) => Err(refusal),
     }

@@ -13,7 +13,7 @@ use Rattle.pfc_actor.specs.Books.{BookView}
 use Rattle.pfc_actor.specs.Clients.{ClientView, IsFresh}
 use Rattle.pfc_scene.specs.Scenes.{AreUnique, who, number_of}
 use Rattle.pfc_scene.specs.Ends.{all_asked}
-use Rattle.pfc_scene.proofs.Scenes.{below_or}
+use Rattle.pfc_scene.proofs.Casts.{below_or}
 use Rattle.pfc_scene.proofs.Reports.{at_map}
 
 reverse_one : {X : Type 0} (x : X) (xs : List X) → reverse (x ∷ xs) ≡ reverse xs ++ x ∷ []

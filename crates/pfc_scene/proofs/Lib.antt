@@ -1,6 +1,16 @@
 pub mod Totals
+pub mod Casts
+pub mod Backed
+pub mod Moving
+pub mod Writing
 pub mod Scenes
+pub mod Starting
+pub mod Making
+pub mod Volumes
+pub mod Opening
+pub mod Unused
 pub mod Asking
 pub mod Playing
+pub mod Homes
 pub mod Reports
 pub mod Beginning

@@ -7,7 +7,7 @@ use Rattle.pfc_scene.proofs.Reports.{at_map}
 use Rattle.std.proofs.lemmas.Simd.{map-map}
 use Rattle.std.proofs.lemmas.List.Elements.{filter_map-append}
 use Rattle.pfc_log.proofs.Places.{by_bool, eq_sym}
-use Rattle.pfc_report.specs.Schedule.{Line, Ask, Go, asked, request_for}
+use Rattle.pfc_report.specs.Schedule.{Line, Ask, Go, Write, asked, request_for}
 use Rattle.pfc_scene.specs.Ends.{all_asked}
 use Rattle.pfc_actor.specs.Clients.{ClientView}
 use Rattle.pfc_scene.specs.Scenes.{who, number_of, asked_more}
@@ -36,9 +36,12 @@ map_id : {X : Type 0} (f : X → X) → ((x : X) → f x ≡ x) → (xs : List X
 map_id f e [] = refl
 map_id f e (x ∷ xs) = ap (λ y. y ∷ map f xs) (e x) ∙ ap (λ l. x ∷ l) (map_id f e xs)
 
--- a `go` adds none, and nor do no lines
+-- a `go` adds none, nor does a `write`, nor do no lines
 pub goes_none : (n times : ℕ) (xs : List (ℕ × List (List ℕ))) → map (all_asked (Go n times ∷ [])) xs ≡ xs
 goes_none n times xs = map_id (all_asked (Go n times ∷ [])) (λ x. ap (λ l. (x.0, l)) (append-nil x.1)) xs
+
+pub writes_none : (w times : ℕ) (xs : List (ℕ × List (List ℕ))) → map (all_asked (Write w times ∷ [])) xs ≡ xs
+writes_none w times xs = map_id (all_asked (Write w times ∷ [])) (λ x. ap (λ l. (x.0, l)) (append-nil x.1)) xs
 
 pub none_yet : (xs : List (ℕ × List (List ℕ))) → map (all_asked []) xs ≡ xs
 none_yet xs = map_id (all_asked []) (λ x. ap (λ l. (x.0, l)) (append-nil x.1)) xs

@@ -1,6 +1,6 @@
 -- The report of a scene at its end.
 use Rattle.std.proofs.Common.{◌≡◌, ℕ, zero, suc, ◌+◌, ◌<◌, List, [], ◌∷◌, ◌++◌, length, map, get_or, sum_by, refl, subst, sym, ap, ◌∙◌, arith, Bool, true, false, if◌then◌else◌, ◌==◌, ne_eqb, eq-eqb}
-use Rattle.std.specs.Prelude.{All, filter, replicate, Option, Some, None}
+use Rattle.std.specs.Prelude.{All, filter}
 use Rattle.std.specs.List.{range_with_len}
 use Rattle.std.proofs.lemmas.Bool.Decides.{nat_tests}
 use Rattle.std.proofs.lemmas.List.{length-map}
@@ -8,15 +8,16 @@ use Rattle.std.proofs.lemmas.List.Sums.{sum_by-cons}
 use Rattle.std.proofs.lemmas.List.Elements.{All-nil, All-cons, All-get_or}
 use Rattle.std.proofs.lemmas.Simd.{map-map}
 use Rattle.pfc_log.proofs.Places.{by_bool}
-use Rattle.pfc_base.specs.BlockSet.{is_member}
 use Rattle.pfc_world.specs.Files.{Files, HasSize}
 use Rattle.pfc_world.specs.Counts.{RoseBy}
 use Rattle.pfc_client.specs.Told.{stats, lost}
 use Rattle.pfc_client.specs.Permitted.{ArePermitted}
 use Rattle.pfc_log.specs.declared.start.Start.{Start}
-use Rattle.pfc_log.specs.declared.start.Start.TheVariants.{Stored}
+use Rattle.pfc_log.specs.Charges.{charges, is_there}
 use Rattle.pfc_log.specs.Lawful.{IsComplete}
+use Rattle.pfc_log.specs.Views.{times}
 use Rattle.pfc_log.specs.Tallies.{Tally, tally, nothing, together}
+use Rattle.pfc_core.specs.Marks.{Mark}
 use Rattle.pfc_core.specs.View.{CoreView}
 use Rattle.pfc_report.specs.declared.report.Told.{Told}
 use Rattle.pfc_report.specs.declared.report.Section.{Section}
@@ -29,11 +30,10 @@ use Rattle.pfc_actor.specs.Steps.{IsTallied, IsWithin}
 use Rattle.pfc_actor.specs.Clients.{ClientView, IsDone}
 use Rattle.pfc_base.specs.Block.{count_of}
 use Rattle.pfc_log.specs.Uncaching.{cause_of}
-use Rattle.pfc_log.specs.declared.entry.Uncached.{Uncached}
 use Rattle.pfc_log.specs.Lawful.{IsCached}
-use Rattle.pfc_scene.specs.Scenes.{IsScene, AreUnique, who, total, start_for, start_of}
+use Rattle.pfc_scene.specs.Scenes.{IsCast, AreUnique, who, total, all_charges}
 use Rattle.pfc_scene.specs.Ends.{IsSection, AreSections, row_of, told_of, asked_by}
-use Rattle.pfc_scene.proofs.Scenes.{nobody, no_core}
+use Rattle.pfc_scene.proofs.Casts.{nobody, no_core}
 use Rattle.pfc_scene.proofs.Totals.{total_sum}
 
 -- ---- sections are what the cores were
@@ -61,23 +61,20 @@ over_is told files f n (x ∷ logs) (c ∷ cores) s =
 over_total : (told : Bool) (files : Files) (f : Tally → ℕ) → f nothing ≡ 0 → ((a b : Tally) → f (together a b) ≡ f a + f b) → (n : ℕ) (logs : List Section) (cores : List CoreView) → AreSections told files logs cores → over f n logs ≡ f (total n cores)
 over_total told files f none adds n logs cores s = over_is told files f n logs cores s ∙ sym (total_sum f none adds n cores)
 
--- ---- starts
+-- ---- starts and failed calls
 
-no_member : (n i : ℕ) → is_member (replicate n false) i ≡ false
-no_member zero i = refl
-no_member (suc n) zero = refl
-no_member (suc n) (suc i) = no_member n i
+starts_right : (told : Bool) (files : Files) (k : ℕ) (path : List ℕ) (first : Start) (c : CoreView) → path ≡ c.path → HasSize told files c.path c.size → first ≡ c.first → StartsFor (cause_of c.path (count_of c.size k)) (count_of c.size k) c.first →
+    StartsRight told files k path first
+starts_right told files k path first c same sized begins start = rw (same, begins) (record { size = c.size; right = sized; start = start })
 
-starts_for : (cause : Option Uncached) (n : ℕ) → StartsFor cause (start_for cause n)
-starts_for None n = λ i. no_member n i
-starts_for (Some why) n = refl
-
-starts_right : (told : Bool) (files : Files) (k : ℕ) (path : List ℕ) (first : Start) (c : CoreView) → path ≡ c.path → HasSize told files c.path c.size → first ≡ start_of c.path (count_of c.size k) → StartsRight told files k path first
-starts_right told files k path first c same sized begins = rw (same, begins) (record {
-  size = c.size;
-  right = sized;
-  start = starts_for (cause_of c.path (count_of c.size k)) (count_of c.size k);
-})
+charges_are : (told : Bool) (files : Files) (logs : List Section) (cores : List CoreView) → AreSections told files logs cores → sum_by (λ (x : Section). charges x.log.first x.log.entries) logs ≡ all_charges cores
+charges_are told files [] [] s = refl
+charges_are told files [] (c ∷ cores) s = absurd s
+charges_are told files (x ∷ logs) [] s = absurd s
+charges_are told files (x ∷ logs) (c ∷ cores) s =
+    let rest = charges_are told files logs cores s.1 in
+    let same : charges x.log.first x.log.entries ≡ charges c.first c.entries = rw (s.0.first_is, s.0.entries_are) refl in
+    omega (arith, sum_by-cons (λ (y : Section). charges y.log.first y.log.entries) x logs, sum_by-cons (λ (y : CoreView). charges y.first y.entries) c cores, rest, same)
 
 -- ---- rows
 
@@ -226,10 +223,10 @@ no_clients lines clients n is none j d lj =
 section_all : (told : Bool) (files : Files) (P : Section → Type 0) (logs : List Section) (cores : List CoreView) → AreSections told files logs cores → ((i : ℕ) (d : Section) → i < length logs → i < length cores → IsSection told files (get_or logs i d) (get_or cores i no_core) → P (get_or logs i d)) → All P logs
 section_all told files P logs cores s h i d l = let long = sections_long told files logs cores s in h i d l (omega (arith, l, long)) (section_at told files logs cores i d no_core s l)
 
-pub caused : (told : Bool) (files : Files) (k : ℕ) (lines : List Line) (clients : List ClientView) (cores : List CoreView) (logs : List Section) → IsScene k clients cores →
-    ((j : ℕ) (d : ClientView) → j < length clients → IsDone told files (get_or clients j d).book (get_or clients j d).line (get_or clients j d).stage) → map who clients ≡ asked_by lines → AreSections told files logs cores →
-    IsCausedReport told files k lines nothing_spent (spent_by (map row_of clients)) (record { clients = map told_of clients; logs = logs })
-caused told files k lines clients cores logs s done is sections =
+pub caused : (told : Bool) (files : Files) (k : ℕ) (rest : (Mark → ℕ) → ℕ) (lines : List Line) (clients : List ClientView) (cores : List CoreView) (logs : List Section) (f g : ℕ) → IsCast k rest clients cores →
+    ((j : ℕ) (d : ClientView) → j < length clients → IsDone told files (get_or clients j d).book (get_or clients j d).line (get_or clients j d).stage) → map who clients ≡ asked_by lines → AreSections told files logs cores → RoseBy f (all_charges cores) g →
+    IsCausedReport told files k lines nothing_spent (spent_by (map row_of clients)) f g (record { clients = map told_of clients; logs = logs })
+caused told files k rest lines clients cores logs f g s done is sections paid =
     let spent : (j : ℕ) → j < length clients → spent_by (map row_of clients) (get_or clients j nobody).book.number ≡ ((get_or clients j nobody).line.calls, (get_or clients j nobody).line.faults) =
     λ j l. row_at clients j nobody (λ i d m. (done i d m).number) s.numbers l in
     let ended : (j : ℕ) → j < length clients → Ended told files lines logs cores (get_or clients j nobody) = λ j l. record {
@@ -248,12 +245,13 @@ caused told files k lines clients cores logs s done is sections =
           (λ j l. subst (λ (x : ℕ × ℕ). ArePermitted told files (asked (get_or clients j nobody).book.number lines) (get_or clients j nobody).book.replies 0 x.1) (sym (spent j l)) (permitted_part told files lines logs cores (get_or clients j nobody) (ended j l)));
       complete = record {
         complete = section_all told files (λ x. IsComplete x.log.first x.log.entries) logs cores sections (λ i d l m x. rw (x.first_is, x.entries_are) x.complete);
+        theres = section_all told files (λ x. times is_there x.log.entries ≡ 0) logs cores sections (λ i d l m x. ap (times is_there) x.entries_are ∙ (s.places i no_core m).theres);
         paths = λ i j d lt l ci cj e.
             let li : i < length cores = omega (arith, lt, l, long) in let lj : j < length cores = omega (arith, l, long) in
             let a = section_at told files logs cores i d no_core sections (omega (arith, lt, l)) in let b = section_at told files logs cores j d no_core sections l in
             let same = s.paths i j no_core li lj (subst IsCached a.first_is ci) (subst IsCached b.first_is cj) (sym a.path_is ∙ e ∙ b.path_is) in absurd (omega (arith, lt, same));
         starts = section_all told files (λ x. StartsRight told files k x.path x.log.first) logs cores sections
-            (λ i d l m x. let c = s.places i no_core m in starts_right told files k (get_or logs i d).path (get_or logs i d).log.first (get_or cores i no_core) x.path_is x.sized (x.first_is ∙ c.start));
+            (λ i d l m x. let c = s.places i no_core m in starts_right told files k (get_or logs i d).path (get_or logs i d).log.first (get_or cores i no_core) x.path_is x.sized x.first_is c.start);
       };
       calls = all_map (λ (t : Told). AreItsCalls t.number (asked t.number lines) t.replies logs (nothing_spent t.number).0 (spent_by (map row_of clients) t.number).0) told_of clients nobody
           (λ j l. subst (λ (x : ℕ × ℕ). AreItsCalls (get_or clients j nobody).book.number (asked (get_or clients j nobody).book.number lines) (get_or clients j nobody).book.replies logs 0 x.0) (sym (spent j l)) (calls_part told files lines logs cores (get_or clients j nobody) (ended j l)));
@@ -263,6 +261,7 @@ caused told files k lines clients cores logs s done is sections =
           subst (λ (y : ℕ). IsWithin no_shares y (tally (get_or clients j nobody).book.number (get_or cores i d).entries)) c.block_size_is (subst (λ x. IsWithin x (get_or cores i d).block_size (tally (get_or clients j nobody).book.number (get_or cores i d).entries)) none w)));
       failed = all_map (λ (t : Told). AreItsFailures t.number (asked t.number lines) t.replies logs (nothing_spent t.number).1 (spent_by (map row_of clients) t.number).1) told_of clients nobody
           (λ j l. subst (λ (x : ℕ × ℕ). AreItsFailures (get_or clients j nobody).book.number (asked (get_or clients j nobody).book.number lines) (get_or clients j nobody).book.replies logs 0 x.1) (sym (spent j l)) (failed_part told files lines logs cores (get_or clients j nobody) (ended j l)));
+      disk = subst (λ m. RoseBy f m g) (sym (charges_are told files logs cores sections)) paid;
       others = λ n none. record {
         spent = no_row clients n (λ i d l. subst (λ m. (n == m) ≡ false) (sym (done i d l).number) (no_clients lines clients n is none i d l));
         logged = section_all told files (λ x. tally_in n x ≡ nothing) logs cores sections (λ i d l m x. ap (tally n) x.entries_are ∙ s.strangers n (no_clients lines clients n is none) i no_core m);

@@ -1,48 +1,61 @@
--- Clients and cores together.
-use Rattle.std.specs.Prelude.{◌≡◌, ℕ, ◌<◌, ◌≤◌, ◌==◌, ◌++◌, if◌then◌else◌, false, List, [], ◌∷◌, length, replicate, sum_by, slice_index_or, Option, Some, None}
+-- Clients, cores and what stands beside them.
+use Rattle.std.specs.Prelude.{◌≡◌, ℕ, ◌+◌, ◌<◌, ◌≤◌, ◌==◌, ◌++◌, if◌then◌else◌, false, List, [], ◌∷◌, length, map, sum_by, slice_index_or, Contains, Option, Some, None}
 use Rattle.pfc_base.specs.Block.{count_of}
-use Rattle.pfc_log.specs.declared.start.Start.{Start}
-use Rattle.pfc_log.specs.declared.start.Start.TheVariants.{Stored}
-use Rattle.pfc_log.specs.declared.start.Start.TheVariants as start
-use Rattle.pfc_log.specs.declared.entry.Uncached.{Uncached}
+use Rattle.pfc_base.specs.Cinfo.{IsBlockSize}
+use Rattle.pfc_world.specs.Counts.{RoseBy}
+use Rattle.pfc_world.specs.declared.refusal.Refusal.{Refusal}
+use Rattle.pfc_world.specs.declared.refusal.Refusal.TheVariants.{Fault, Memory}
+use Rattle.pfc_log.specs.Charges.{charges, start_charge, is_there}
 use Rattle.pfc_log.specs.Lawful.{IsCached}
 use Rattle.pfc_log.specs.Uncaching.{cause_of}
 use Rattle.pfc_log.specs.Tallies.{Tally, tally, together, nothing}
+use Rattle.pfc_log.specs.Views.{times}
 use Rattle.pfc_core.specs.Marks.{Mark}
 use Rattle.pfc_core.specs.Calls.{foreign}
 use Rattle.pfc_core.specs.View.{CoreView}
+use Rattle.pfc_writer.specs.Writer.{work_weight}
+use Rattle.pfc_report.specs.Caused.{StartsFor}
+use Rattle.pfc_actor.specs.Backings.{BackingView, Stand, path_in, loan_weight, Covers, IsBackingOf, DepotView, IsOutAs}
+use Rattle.pfc_actor.specs.Backings as bk
 use Rattle.pfc_actor.specs.Stages.{shares}
 use Rattle.pfc_actor.specs.Steps.{IsTallied, IsWithin}
 use Rattle.pfc_actor.specs.Clients.{ClientView, holds}
 
+-- The clients; the cores, and what stands beside each; the job that each writer is at, the jobs that wait, and the most of
+-- them; the block size.
 pub record SceneView : Type 0 where
   pub clients : List ClientView
   pub cores : List CoreView
+  pub backings : List BackingView
+  pub writers : List (Option Mark)
+  pub jobs : List Mark
+  pub capacity : ℕ
   pub block_size : ℕ
 
 -- what a core has given out, weighed
 abbrev pub lists : (Mark → ℕ) → CoreView → ℕ
 lists w c = sum_by w c.out
 
+abbrev pub lent_of : (Mark → ℕ) → BackingView → ℕ
+lent_of w b = loan_weight w b.stand
+
+-- what is held by others than clients, weighed: the loans, the writers' jobs, and those that wait
+abbrev pub beside : (Mark → ℕ) → SceneView → ℕ
+beside w v = sum_by (lent_of w) v.backings + sum_by (work_weight w) v.writers + sum_by w v.jobs
+
 -- what client n did, by all logs
 abbrev pub total : ℕ → List CoreView → Tally
 total n [] = nothing
 total n (c ∷ cs) = together (tally n c.entries) (total n cs)
 
--- how a log starts, of a file with so many blocks: with a store that has none of them, or without one for this cause
-abbrev pub start_for : Option Uncached → ℕ → Start
-start_for None blocks = Stored (replicate blocks false)
-start_for (Some why) blocks = start.Uncached why
-
-abbrev pub start_of : List ℕ → ℕ → Start
-start_of path blocks = start_for (cause_of path blocks) blocks
-
--- the core at place i: its number is its place, all that it gave out is its own, and its file had no block on disk
+-- the core at place i: its number is its place, all that it gave out is its own, its log starts as that of such a file, and no
+-- block was there as it was to be written
 pub record IsCore (k i : ℕ) (c : CoreView) : Type 0 where
   pub instance_is : c.instance ≡ i
   pub own : sum_by (foreign c) c.out ≡ 0
   pub block_size_is : c.block_size ≡ k
-  pub start : c.first ≡ start_of c.path (count_of c.size k)
+  pub start : StartsFor (cause_of c.path (count_of c.size k)) (count_of c.size k) c.first
+  pub theres : times is_there c.entries ≡ 0
 
 -- the client's replies, line and work are what the logs say of it, together and one by one
 pub record IsActorAs (n : ℕ) (cores : List CoreView) (a : ClientView) : Type 0 where
@@ -52,21 +65,34 @@ pub record IsActorAs (n : ℕ) (cores : List CoreView) (a : ClientView) : Type 0
 abbrev pub IsActor : List CoreView → ClientView → Type 0
 IsActor cores a = IsActorAs a.book.number cores a
 
--- The clients hold what the cores gave out. Each is one, and each path has at most one core that is cached. Nobody else stands in a
--- log.
-pub record IsScene (k : ℕ) (clients : List ClientView) (cores : List CoreView) : Type 0 where
-  pub least : 4096 ≤ k
-  pub most : k ≤ 16777216
-  pub tokens : (w : Mark → ℕ) → sum_by (holds w) clients ≡ sum_by (lists w) cores
-  pub actors : (j : ℕ) (d : ClientView) → j < length clients → IsActor cores (slice_index_or clients j d)
-  pub numbers : (i j : ℕ) (d : ClientView) → i < length clients → j < length clients → (slice_index_or clients i d).book.number ≡ (slice_index_or clients j d).book.number → i ≡ j
-  pub places : (i : ℕ) (d : CoreView) → i < length cores → IsCore k i (slice_index_or cores i d)
-  pub paths : (i j : ℕ) (d : CoreView) → i < length cores → j < length cores → IsCached (slice_index_or cores i d).first → IsCached (slice_index_or cores j d).first → (slice_index_or cores i d).path ≡ (slice_index_or cores j d).path → i ≡ j
-  pub strangers : (n : ℕ) → ((j : ℕ) (d : ClientView) → j < length clients → (n == (slice_index_or clients j d).book.number) ≡ false) → (i : ℕ) (d : CoreView) → i < length cores → tally n (slice_index_or cores i d).entries ≡ nothing
-
 -- no two clients have one number
 abbrev pub AreUnique : List ClientView → Type 0
 AreUnique clients = (i j : ℕ) (d : ClientView) → i < length clients → j < length clients → (slice_index_or clients i d).book.number ≡ (slice_index_or clients j d).book.number → i ≡ j
+
+-- each path has at most one core that is cached
+abbrev pub AreApart : List CoreView → Type 0
+AreApart cores = (i j : ℕ) (d : CoreView) → i < length cores → j < length cores → IsCached (slice_index_or cores i d).first → IsCached (slice_index_or cores j d).first → (slice_index_or cores i d).path ≡ (slice_index_or cores j d).path → i ≡ j
+
+-- Clients hold what the cores gave out, but for what is held elsewhere, which is weighed by `rest`. Each client is one, and each
+-- path has at most one core that is cached. Nobody else stands in a log.
+pub record IsCast (k : ℕ) (rest : (Mark → ℕ) → ℕ) (clients : List ClientView) (cores : List CoreView) : Type 0 where
+  pub block_size : IsBlockSize k
+  pub tokens : (w : Mark → ℕ) → sum_by (holds w) clients + rest w ≡ sum_by (lists w) cores
+  pub actors : (j : ℕ) (d : ClientView) → j < length clients → IsActor cores (slice_index_or clients j d)
+  pub numbers : AreUnique clients
+  pub places : (i : ℕ) (d : CoreView) → i < length cores → IsCore k i (slice_index_or cores i d)
+  pub paths : AreApart cores
+  pub strangers : (n : ℕ) → ((j : ℕ) (d : ClientView) → j < length clients → (n == (slice_index_or clients j d).book.number) ≡ false) → (i : ℕ) (d : CoreView) → i < length cores → tally n (slice_index_or cores i d).entries ≡ nothing
+
+-- what stands beside each core is of its file
+pub record AreBackings (cores : List CoreView) (backings : List BackingView) : Type 0 where
+  pub long : length backings ≡ length cores
+  pub each : (i : ℕ) (d : CoreView) (e : BackingView) → i < length cores → IsBackingOf (slice_index_or cores i d) (slice_index_or backings i e)
+
+-- What clients don't hold is lent, a writer's job, or waits in the queue. Beside each core stands what is of its file.
+pub record IsScene (v : SceneView) : Type 0 where
+  pub cast : IsCast v.block_size (λ w. beside w v) v.clients v.cores
+  pub backed : AreBackings v.cores v.backings
 
 -- whose a client is and what it was asked
 abbrev pub who : ClientView → ℕ × List (List ℕ)
@@ -76,11 +102,101 @@ who a = (a.book.number, a.book.asked)
 abbrev pub asked_more : ℕ → List ℕ → ℕ × List (List ℕ) → ℕ × List (List ℕ)
 asked_more n line x = if x.0 == n then (x.0, x.1 ++ line ∷ []) else x
 
+abbrev pub number_of : ClientView → ℕ
+number_of a = a.book.number
+
+-- ---- the depot
+
+-- a volume of this path stands there
+pub record StandsThere (path : List ℕ) (backings : List BackingView) : Type 0 where
+  pub place : ℕ
+  pub low : place < length backings
+  pub stands : (e : BackingView) → path_in (slice_index_or backings place e).stand ≡ Some path
+
+-- the depot's volumes that are out are those that stand there, as they were taken, each once
+pub record IsLentBy (d : DepotView) (backings : List BackingView) : Type 0 where
+  pub each : (i : ℕ) (e : BackingView) → i < length backings → IsOutAs (path_in (slice_index_or backings i e).stand) (slice_index_or backings i e) d
+  pub only : (path : List ℕ) → Contains d.out path → StandsThere path backings
+  pub once : (i j : ℕ) (e : BackingView) (path : List ℕ) → i < length backings → j < length backings → path_in (slice_index_or backings i e).stand ≡ Some path → path_in (slice_index_or backings j e).stand ≡ Some path → i ≡ j
+
+-- the failed calls that a core's log shows, where no volume stands beside it any more
+abbrev pub settled_in : Stand → CoreView → ℕ
+settled_in bk.Bare c = charges c.first c.entries
+settled_in _ c = 0
+
+-- and of all cores
+abbrev pub settled : List CoreView → List BackingView → ℕ
+settled [] backings = 0
+settled (c ∷ cores) [] = charges c.first c.entries + settled cores []
+settled (c ∷ cores) (b ∷ backings) = settled_in b.stand c + settled cores backings
+
+-- and of all cores, whatever stands beside them
+abbrev pub all_charges : List CoreView → ℕ
+all_charges cores = sum_by (λ c. charges c.first c.entries) cores
+
+-- ---- what steps keep
+
+-- without the depot
+pub record Moves (v v2 : SceneView) : Type 0 where
+  pub same : map who v2.clients ≡ map who v.clients
+  pub clients_are : length v2.clients ≡ length v.clients
+  pub writers_are : length v2.writers ≡ length v.writers
+  pub block_size : v2.block_size ≡ v.block_size
+  pub capacity : v2.capacity ≡ v.capacity
+  pub lent : (d : DepotView) → IsLentBy d v.backings → IsLentBy d v2.backings
+  pub settled_is : settled v2.cores v2.backings ≡ settled v.cores v.backings
+
+-- with it: what is settled is covered by its count of faults, whatever that was before
+pub record Plays (v : SceneView) (d : DepotView) (v2 : SceneView) (d2 : DepotView) : Type 0 where
+  pub same : map who v2.clients ≡ map who v.clients
+  pub clients_are : length v2.clients ≡ length v.clients
+  pub writers_are : length v2.writers ≡ length v.writers
+  pub block_size : v2.block_size ≡ v.block_size
+  pub capacity : v2.capacity ≡ v.capacity
+  pub paid : (f : ℕ) → RoseBy f (settled v.cores v.backings) d.faults → RoseBy f (settled v2.cores v2.backings) d2.faults
+
+-- without the depot, where one failed call more may be settled, which its count is to cover
+pub record Owes (v v2 : SceneView) : Type 0 where
+  pub same : map who v2.clients ≡ map who v.clients
+  pub clients_are : length v2.clients ≡ length v.clients
+  pub writers_are : length v2.writers ≡ length v.writers
+  pub block_size : v2.block_size ≡ v.block_size
+  pub capacity : v2.capacity ≡ v.capacity
+  pub lent : (d : DepotView) → IsLentBy d v.backings → IsLentBy d v2.backings
+  pub settled_most : settled v2.cores v2.backings ≤ settled v.cores v.backings + 1
+
+-- after a fault one failed call is covered
+abbrev pub CoversFault : Refusal → BackingView → Type 0
+CoversFault Fault b = Covers 1 b
+CoversFault Memory b = Unit {0}
+
+-- nothing has happened on a core whose file is cached
+abbrev pub IsUnused : CoreView → Type 0
+IsUnused c = IsCached c.first × (c.entries ≡ []) × (c.out ≡ [])
+
+-- a fresh core in the place of a fresh one, of the same file
+pub record Renews (c c2 : CoreView) : Type 0 where
+  pub instance_is : c2.instance ≡ c.instance
+  pub path_is : c2.path ≡ c.path
+  pub size_is : c2.size ≡ c.size
+  pub block_size_is : c2.block_size ≡ c.block_size
+  pub cached : IsCached c.first
+  pub entries_were : c.entries ≡ []
+  pub out_was : c.out ≡ []
+  pub entries_are : c2.entries ≡ []
+  pub out_is : c2.out ≡ []
+
+-- one that is cached still, and starts with a set of the file's blocks
+pub record Restarts (k : ℕ) (c c2 : CoreView) : Type 0 where
+  pub renews : Renews c c2
+  pub cached : IsCached c2.first
+  pub start : StartsFor None (count_of c.size k) c2.first
+
 -- the file isn't cached, or no cached core is of this path
 abbrev pub IsAlone : List CoreView → List ℕ → ℕ → Type 0
 IsAlone cores path blocks = cause_of path blocks ≡ None → (i : ℕ) (d : CoreView) → i < length cores → IsCached (slice_index_or cores i d).first → (slice_index_or cores i d).path ≡ path → ⊥
 
--- a new core of this path behind the others
+-- a new core of this path behind the others, whose log shows no failed call
 pub record Makes (k : ℕ) (cores : List CoreView) (path : List ℕ) (after : List CoreView) : Type 0 where
   pub core : CoreView
   pub behind : after ≡ cores ++ core ∷ []
@@ -89,6 +205,4 @@ pub record Makes (k : ℕ) (cores : List CoreView) (path : List ℕ) (after : Li
   pub alone : IsAlone cores path (count_of core.size k)
   pub entries : core.entries ≡ []
   pub out : core.out ≡ []
-
-abbrev pub number_of : ClientView → ℕ
-number_of a = a.book.number
+  pub unpaid : start_charge core.first ≡ 0

@@ -1,8 +1,16 @@
-//! The clients of a run and the cores of their files, which step in turn on one thread, and the report of it.
+//! The clients of a run, the cores of their files with their volumes, and the writers, which step in turn on one thread, and the
+//! report of it.
 #![tactic(auto)]
 
+mod cores;
+mod drain;
+mod home;
+mod lends;
+mod opens;
 mod run;
 mod scene;
+mod steps;
+mod writes;
 
-pub use run::run_scene;
+pub use run::{Settings, run_scene};
 pub use scene::Scene;

@@ -1,20 +1,26 @@
 // A run of a plan: its clients and their links, its steps, its drain, its end.
-ghost use Rattle.std.specs.Prelude.{◌≡◌, ◌<◌, ◌≤◌, ◌+◌, ◌++◌, ◌∷◌, [], ℕ, List, length, slice_index_or, take, map, IfOk, OnOk, IsTrue, vec_len, vec_capacity, replicate, None, false, true, All, IfSome, ⊤, reverse, if◌then◌else◌};
+ghost use Rattle.std.specs.Prelude.{◌≡◌, ◌<◌, ◌≤◌, ◌+◌, ◌++◌, ◌∷◌, [], ℕ, List, length, slice_index_or, take, map, IfOk, OnOk, IsTrue, vec_len, vec_capacity, replicate, None, false, true, All, IfSome, Option, ⊤, reverse, if◌then◌else◌};
 ghost use Rattle.pfc_report.specs.Schedule.{Line, asked, asked_clients};
 ghost use Rattle.pfc_report.specs.Plan.{line_of};
 ghost use Rattle.pfc_report.specs.Spent.{rows_of, spent_by, nothing_spent};
 ghost use Rattle.pfc_report.specs.Caused.{IsCausedReport};
+ghost use Rattle.pfc_base.specs.Cinfo.{IsBlockSize};
+ghost use Rattle.pfc_world.specs.Counts.{RoseBy};
+ghost use Rattle.pfc_core.specs.Marks.{Mark};
+ghost use Rattle.pfc_actor.specs.Backings.{depot_of, IsSoundAtHome};
 ghost use Rattle.pfc_actor.specs.Clients.{ClientView, IsDone};
-ghost use Rattle.pfc_scene.specs.Scenes.{SceneView, IsScene, who, number_of};
+ghost use Rattle.pfc_scene.specs.Scenes.{SceneView, IsScene, IsLentBy, settled, who, number_of};
 ghost use Rattle.pfc_actor.specs.Clients.{IsFresh};
 ghost use Rattle.pfc_scene.specs.Ends.{AreSections, row_of, told_of, asked_by, all_asked, fresh_book};
 
+use crate::home::put_all;
 use crate::scene::Scene;
 use pfc_actor::{Book, Client};
 use pfc_base::Memory;
 use pfc_core::FileCore;
 use pfc_report::{CLIENTS, Plan, Replies, Report, Section, Step, Told};
-use pfc_world::{Origin, World};
+use pfc_world::{Clock, Depot, Origin, World};
+use pfc_writer::{WriteQueue, Writer};
 use std::alloc::Global;
 
 /// Whether each client is done.
@@ -70,12 +76,32 @@ fn end_cores<W: World>(alloc: Global, cores: Vec<FileCore<W>>) -> Result<Vec<Sec
     Ok(logs)
 }
 
+/// How a run is laid out.
+#[derive(Clone, Copy, Debug, PartialEq, Eq)]
+pub struct Settings {
+    /// The bytes of a block.
+    pub block_size: u64,
+    /// How many jobs wait to be written, at most.
+    pub capacity: u32,
+    /// How many write.
+    pub writers: u32,
+}
+
 /// Plays one step of a plan.
-fn play_step<W: World, O: Origin<W>>(
+fn play_step<W: World, O: Origin<W>, P: Depot<W>, K: Clock>(
     alloc: Global,
-    scene: &mut Scene<W, O>,
+    scene: &mut Scene<W, O, P>,
+    depot: &mut P,
+    clock: &mut K,
     step: Step<'_>,
 ) -> Result<(), Memory>
+    requires told { IsTrue W.told → IsTrue P.Data.told }
+    requires sound { IsSoundAtHome W.told P.Data.told W.files (P.home_data depot.old) (P.home_main depot.old) }
+    requires lent { IsLentBy (depot_of P.out P.lent P.faults depot.old) scene.old.backings }
+    ensures sound { IsSoundAtHome W.told P.Data.told W.files (P.home_data depot.new) (P.home_main depot.new) }
+    ensures lent { IsLentBy (depot_of P.out P.lent P.faults depot.new) scene.new.backings }
+    ensures paid { (f : ℕ) → RoseBy f (settled scene.old.cores scene.old.backings) (P.faults depot.old) → RoseBy f (settled scene.new.cores scene.new.backings) (P.faults depot.new) }
+    ensures unlisted { P.unlisted depot.new ≡ P.unlisted depot.old }
     ensures asked { OnOk result (map who scene.new.clients ≡ map (all_asked (line_of step.entry ∷ [])) (map who scene.old.clients)) }
     ensures numbers { map number_of scene.new.clients ≡ map number_of scene.old.clients }
     ensures block_size { scene.new.block_size ≡ scene.old.block_size }
@@ -84,35 +110,49 @@ fn play_step<W: World, O: Origin<W>>(
     match step {
         Step::Ask { client, rest } => scene.ask(alloc, client, rest),
         Step::Go { client, times } => {
-            scene.go(alloc, client, times);
+            scene.go(alloc, depot, clock, client, times);
+            Ok(())
+        }
+        Step::Write { writer, times } => {
+            scene.write(writer, times);
             Ok(())
         }
     }
 }
 
 /// Plays the steps of a plan.
-fn play<W: World, O: Origin<W>>(
+fn play<W: World, O: Origin<W>, P: Depot<W>, K: Clock>(
     alloc: Global,
-    scene: &mut Scene<W, O>,
+    scene: &mut Scene<W, O, P>,
+    depot: &mut P,
+    clock: &mut K,
     plan: &Plan<'_>,
 ) -> Result<(), Memory>
+    requires told { IsTrue W.told → IsTrue P.Data.told }
+    requires sound { IsSoundAtHome W.told P.Data.told W.files (P.home_data depot.old) (P.home_main depot.old) }
+    requires lent { IsLentBy (depot_of P.out P.lent P.faults depot.old) scene.old.backings }
+    ensures sound { IsSoundAtHome W.told P.Data.told W.files (P.home_data depot.new) (P.home_main depot.new) }
+    ensures lent { IsLentBy (depot_of P.out P.lent P.faults depot.new) scene.new.backings }
+    ensures paid { (f : ℕ) → RoseBy f (settled scene.old.cores scene.old.backings) (P.faults depot.old) → RoseBy f (settled scene.new.cores scene.new.backings) (P.faults depot.new) }
+    ensures unlisted { P.unlisted depot.new ≡ P.unlisted depot.old }
     ensures asked { OnOk result (map who scene.new.clients ≡ map (all_asked plan.now) (map who scene.old.clients)) }
     ensures numbers { map number_of scene.new.clients ≡ map number_of scene.old.clients }
     ensures block_size { scene.new.block_size ≡ scene.old.block_size }
     ensures length { length scene.new.clients ≡ length scene.old.clients }
 {
     for step in plan.steps() {
-        play_step(alloc, scene, *step)?;
+        play_step(alloc, scene, depot, clock, *step)?;
     }
     Ok(())
 }
 
-impl<W: World, O: Origin<W>> Scene<W, O> {
-    /// The end of a run: the links of its clients, and its report where each client is done and each core ended. The lists
-    /// that are handed in are empty, with room for all clients.
+impl<W: World, O: Origin<W>, P: Depot<W>> Scene<W, O, P> {
+    /// The end of a run: the links of its clients, and its report where each client is done and each core ended. All volumes go
+    /// home. The lists that are handed in are empty, with room for all clients.
     fn end(
         self,
         alloc: Global,
+        depot: &mut P,
         mut links: Vec<O>,
         mut told: Vec<Told>,
     ) -> (Vec<O>, Result<Report, Memory>)
@@ -120,11 +160,17 @@ impl<W: World, O: Origin<W>> Scene<W, O> {
         requires told { told.items ≡ [] }
         requires link_room { length self.clients ≤ vec_capacity links }
         requires told_room { length self.clients ≤ vec_capacity told }
+        requires sound { IsSoundAtHome W.told P.Data.told W.files (P.home_data depot.old) (P.home_main depot.old) }
+        requires lent { IsLentBy (depot_of P.out P.lent P.faults depot.old) self.backings }
+        ensures sound { IsSoundAtHome W.told P.Data.told W.files (P.home_data depot.new) (P.home_main depot.new) }
+        ensures home { P.out depot.new ≡ [] }
+        ensures unlisted { P.unlisted depot.new ≡ P.unlisted depot.old }
         ensures numbers { map O.number result.0.items ≡ map number_of self.clients }
-        ensures caused { (lines : List Line) → map who self.clients ≡ asked_by lines → IfOk result.1 (IsCausedReport W.told W.files self.block_size lines nothing_spent (spent_by (rows_of O.number O.calls O.faults result.0.items))) }
+        ensures caused { (lines : List Line) (f : ℕ) → map who self.clients ≡ asked_by lines → RoseBy f (settled self.cores self.backings) (P.faults depot.old) → IfOk result.1 (IsCausedReport W.told W.files self.block_size lines nothing_spent (spent_by (rows_of O.number O.calls O.faults result.0.items)) f (P.faults depot.new)) }
     {
-        let (mut clients, cores) = self.parts();
+        let (mut clients, cores, backings) = self.parts();
         let done = all_done(&clients);
+        put_all(depot, backings);
         clients.reverse();
         end_clients(clients, &mut links, &mut told);
         if !done {
@@ -192,19 +238,37 @@ fn make_clients<W: World, O: Origin<W>>(
     }
 }
 
-/// Runs a plan over fresh links, one for each client that it asks anything, in order of number, and hands them back. Files
-/// have blocks of so many bytes.
-pub fn run_scene<W: World, O: Origin<W>>(
+/// So many writers at rest.
+fn make_writers<W: World>(alloc: Global, count: u32) -> Result<Vec<Writer<W>>, Memory>
+    ensures { IfOk result (λ writers. (w : ℕ) (d : Option Mark) → w < length writers.items → slice_index_or writers.items w d ≡ None) }
+{
+    let mut writers = Vec::with_capacity(alloc, count as usize)?;
+    for _writer in 0..count {
+        writers.push_reserved(Writer::new());
+    }
+    Ok(writers)
+}
+
+/// Runs a plan over fresh links, one for each client that it asks anything, in order of number, and hands them back. The volumes
+/// of the files are taken from a depot from which nothing is out, and all of them are home in the end.
+pub fn run_scene<W: World, O: Origin<W>, P: Depot<W>, K: Clock>(
     alloc: Global,
     mut links: Vec<O>,
     plan: &Plan<'_>,
-    block_size: u64,
+    depot: &mut P,
+    clock: &mut K,
+    settings: Settings,
 ) -> (Vec<O>, Result<Report, Memory>)
-    requires least { 4096 ≤ block_size }
-    requires most { block_size ≤ 16777216 }
+    requires told { IsTrue W.told → IsTrue P.Data.told }
+    requires block_size { IsBlockSize settings.block_size }
     requires fresh { rows_of O.number O.calls O.faults links.items ≡ map (λ n. (n, 0, 0)) (asked_clients plan.now) }
+    requires home { P.out depot.old ≡ [] }
+    requires sound { IsSoundAtHome W.told P.Data.told W.files (P.home_data depot.old) (P.home_main depot.old) }
     ensures numbers { map O.number result.0.items ≡ asked_clients plan.now }
-    ensures caused { IfOk result.1 (IsCausedReport W.told W.files block_size plan.now nothing_spent (spent_by (rows_of O.number O.calls O.faults result.0.items))) }
+    ensures caused { IfOk result.1 (IsCausedReport W.told W.files settings.block_size plan.now nothing_spent (spent_by (rows_of O.number O.calls O.faults result.0.items)) (P.faults depot.old) (P.faults depot.new)) }
+    ensures home { P.out depot.new ≡ [] }
+    ensures sound { IsSoundAtHome W.told P.Data.told W.files (P.home_data depot.new) (P.home_main depot.new) }
+    ensures unlisted { P.unlisted depot.new ≡ P.unlisted depot.old }
 {
     let Ok(books) = make_books(alloc, plan) else {
         return (links, Err(Memory));
@@ -212,19 +276,25 @@ pub fn run_scene<W: World, O: Origin<W>>(
     let Ok(told) = Vec::with_capacity(alloc, books.len()) else {
         return (links, Err(Memory));
     };
+    let Ok(writers) = make_writers(alloc, settings.writers) else {
+        return (links, Err(Memory));
+    };
+    let Ok(queue) = WriteQueue::new(alloc, settings.capacity) else {
+        return (links, Err(Memory));
+    };
     let Ok(mut clients) = Vec::with_capacity(alloc, books.len()) else {
         return (links, Err(Memory));
     };
     make_clients(books, &mut links, &mut clients);
     clients.reverse();
-    let mut scene = Scene::new(alloc, clients, block_size);
-    match play(alloc, &mut scene, plan) {
+    let mut scene = Scene::new(alloc, clients, writers, queue, settings.block_size);
+    match play(alloc, &mut scene, depot, clock, plan) {
         Ok(()) => {
-            scene.drain(alloc);
-            scene.end(alloc, links, told)
+            scene.drain(alloc, depot, clock);
+            scene.end(alloc, depot, links, told)
         }
         Err(memory) => {
-            let (links, _report) = scene.end(alloc, links, told);
+            let (links, _report) = scene.end(alloc, depot, links, told);
             (links, Err(memory))
         }
     }

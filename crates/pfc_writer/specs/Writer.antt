@@ -1,5 +1,6 @@
 -- What a writer holds, and how it ends its job.
 use Rattle.std.specs.Prelude.{◌≡◌, ℕ, Option, Some, None}
+use Rattle.pfc_store.specs.Views.{StoreView}
 use Rattle.pfc_log.specs.Charges.{GrowsCalmly}
 use Rattle.pfc_log.specs.Tallies.{tally}
 use Rattle.pfc_core.specs.Marks.{Mark, Loses}
@@ -20,3 +21,7 @@ pub record TakesJob (old : CoreView) (job : Mark) (new : CoreView) : Type 0 wher
 abbrev pub EndsWork : CoreView → Option Mark → CoreView → Type 0
 EndsWork old None new = ⊥
 EndsWork old (Some job) new = TakesJob old job new
+
+-- the job is of the store's file
+abbrev pub IsOfStore : {D I : Type 0} → Mark → StoreView D I → Type 0
+IsOfStore job store = (job.path ≡ store.path) × (job.size ≡ store.size) × (job.block_size ≡ store.block_size)

@@ -1,9 +1,9 @@
 // A writer and the job that it is at.
-ghost use Rattle.std.specs.Prelude.{◌≡◌, ◌+◌, ℕ, false, IsTrue, Some, None, option_map, sum_by, MatchOption, OnOk, OnErr, IfErr};
+ghost use Rattle.std.specs.Prelude.{◌≡◌, ◌+◌, ℕ, false, IsTrue, Some, None, option_map, sum_by, MatchOption, OnOk, OnErr, IfErr, IsSome};
 ghost use Rattle.pfc_core.specs.declared.loan.Did.TheVariants as did;
 ghost use Rattle.pfc_core.specs.Loans.{WritesLent};
 ghost use Rattle.pfc_core.specs.Marks.{Mark};
-ghost use Rattle.pfc_writer.specs.Writer.{work_weight, EndsWork, TakesJob};
+ghost use Rattle.pfc_writer.specs.Writer.{work_weight, EndsWork, IsOfStore, TakesJob};
 
 use crate::queue::WriteQueue;
 use crate::turn::write_turn;
@@ -84,6 +84,17 @@ impl<W: World> Writer<W> {
         }
     }
 
+    /// Whether it has a job, and that is of the file and block size of the loan.
+    pub fn fits<D: DataDev<W>, I: InfoDev<W>>(&self, loan: &Loan<W, D, I>) -> bool
+        ensures some { IsTrue result → IsSome self.now }
+        ensures file { IsTrue result → (job : Mark) → self.now ≡ Some job → IsOfStore job loan.now.store }
+    {
+        match &self.work {
+            None => false,
+            Some(work) => is_of_store(&work.job, loan),
+        }
+    }
+
     /// Takes the first job of the queue, where it has none and there is one. It tells whether it did.
     pub fn take(&mut self, queue: &mut WriteQueue<W>) -> bool
         ensures tokens { (w : Mark → ℕ) → work_weight w self.new + sum_by w queue.new.jobs ≡ work_weight w self.old + sum_by w queue.old.jobs }
@@ -159,6 +170,17 @@ impl<W: World> Writer<W> {
             }
         }
     }
+}
+
+/// Whether a job is of the file and block size of a loan.
+fn is_of_store<W: World, D: DataDev<W>, I: InfoDev<W>>(job: &Job<W>, loan: &Loan<W, D, I>) -> bool
+    ensures { IsTrue result → IsOfStore job.now loan.now.store }
+{
+    let block = job.block();
+    if !block.known().same(loan.known()) {
+        return false;
+    }
+    block.block_size() == loan.block_size()
 }
 
 /// Ends a job at this phase.

@@ -4,7 +4,7 @@
 
 use anyhow::Result;
 use pfc_base::Memory;
-use pfc_folder::{FolderHost, FolderWorld, StdSink};
+use pfc_folder::{FolderDepot, FolderHost, FolderWorld, StdSink, WallClock};
 use pfc_replay::run_replay;
 use std::env;
 use std::process::ExitCode;
@@ -23,10 +23,19 @@ fn run(rt: HostRuntime) -> Result<u8> {
         Ok(host) => host,
         Err(Memory) => return Ok(OUT_OF_MEMORY),
     };
+    let mut depot = match FolderDepot::new(rt.clone()?, alloc, &words) {
+        Ok(depot) => depot,
+        Err(Memory) => return Ok(OUT_OF_MEMORY),
+    };
+    let mut clock = WallClock::new(rt.clone()?);
     let mut out = StdSink::new(rt);
-    Ok(run_replay::<FolderWorld, FolderHost<HostRuntime>, StdSink<HostRuntime>>(
-        alloc, &words, &mut host, &mut out,
-    ))
+    Ok(run_replay::<
+        FolderWorld,
+        FolderHost<HostRuntime>,
+        FolderDepot<HostRuntime>,
+        WallClock<HostRuntime>,
+        StdSink<HostRuntime>,
+    >(alloc, &words, &mut host, &mut depot, &mut clock, &mut out))
 }
 
 fn main(rt: HostRuntime) -> ExitCode {

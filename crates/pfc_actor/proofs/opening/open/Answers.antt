@@ -2,6 +2,8 @@ use Rattle.std.proofs.Common.{refl, ap, arith}
 use Rattle.pfc_actor.specs.Books.{BookView}
 use Rattle.pfc_actor.proofs.Steps.{own_answered}
 use Rattle.pfc_actor.proofs.Cores.{opened_step, own_step}
+use Rattle.pfc_log.specs.declared.entry.Entry.TheVariants as e
+use Rattle.pfc_actor.proofs.Calm.{calm_still, calm_entered}
 use Rattle.pfc_actor.proofs.opening.open.Goals as goal
 
 pub returns-in-Ok-clause-making : goal.returns-in-Ok-clause-making
@@ -21,3 +23,9 @@ returns-in-Err-clause-making g c =
 pub returns-in-Err-clause-joining : goal.returns-in-Err-clause-joining
 returns-in-Err-clause-joining g c =
     own_step _ _ _ _ _ _ _ _ (own_answered _ _ _ _ _ _ _ 0 (λ w. refl) refl refl (λ i. refl) c.reply.ensures c.requires.work.asked.next refl refl refl refl (omega arith) (omega arith) refl) c.in-Err.ensures.memory
+
+pub returns-in-Ok-clause-calm : goal.returns-in-Ok-clause-calm
+returns-in-Ok-clause-calm g c = calm_entered c.args.core.now _ (e.Opened _) _ c.in-Ok.ensures.ok.enters refl
+
+pub returns-in-Err-clause-calm : goal.returns-in-Err-clause-calm
+returns-in-Err-clause-calm g c = calm_still _ _ c.in-Err.ensures.memory

@@ -1,4 +1,5 @@
 use Rattle.std.proofs.Common.{refl}
+use Rattle.pfc_actor.proofs.Calm.{calm_still}
 use Rattle.pfc_actor.proofs.Cores.{own_step}
 use Rattle.pfc_actor.proofs.Going.{run_next, direct_next, look_next, load_next, end_next, own_own, own_then_step, knows_on}
 use Rattle.pfc_actor.proofs.reading.act.Goals as goal
@@ -21,8 +22,11 @@ returns-in-Look-clause-step g c = own_then_step _ _ _ _ _ _ _ _ _ (look_next c.a
 pub returns-in-Finish-clause-step : goal.returns-in-Finish-clause-step
 returns-in-Finish-clause-step g c = own_then_step _ _ _ _ _ _ _ _ _ (end_next c.args.book.now c.args.line.now c.args.op c.next.new.self c.in-Finish.ensures) c.finish.ensures.step
 
-pub leave-requires-clause-knows : goal.leave-requires-clause-knows
-leave-requires-clause-knows g c κs within = knows_on _ c.args.line.now _ _ _ (load_next c.args.book.now c.args.line.now c.args.op c.next.new.self c.in-Disk.disk c.in-Disk.part c.in-Disk.ensures) c.requires.knows
-
 pub returns-in-Disk-clause-step : goal.returns-in-Disk-clause-step
-returns-in-Disk-clause-step g c = own_then_step _ _ _ _ _ _ _ _ _ (load_next c.args.book.now c.args.line.now c.args.op c.next.new.self c.in-Disk.disk c.in-Disk.part c.in-Disk.ensures) c.leave.ensures.step
+returns-in-Disk-clause-step g c = own_step _ _ _ _ _ _ _ _ (load_next c.args.book.now c.args.line.now c.args.op c.next.new.self c.in-Disk.disk c.in-Disk.part c.in-Disk.ensures) refl
+
+pub returns-in-Direct-clause-calm : goal.returns-in-Direct-clause-calm
+returns-in-Direct-clause-calm g c = calm_still c.args.core.now c.args.core.now refl
+
+pub returns-in-Disk-clause-calm : goal.returns-in-Disk-clause-calm
+returns-in-Disk-clause-calm g c = calm_still c.args.core.now c.args.core.now refl

@@ -1,6 +1,7 @@
 use Rattle.std.proofs.Common.{refl, sym, subst, ℕ, List}
 use Rattle.pfc_read.specs.Ends.{IsData}
 use Rattle.pfc_actor.proofs.Ending.{served_step, unserved_step, its_bytes, its_fetch, none_of}
+use Rattle.pfc_actor.proofs.Calm.{calm_ended}
 use Rattle.pfc_actor.proofs.reading.finish.Goals as goal
 
 pub reply-requires-clause-permitted : goal.reply-requires-clause-permitted
@@ -25,3 +26,12 @@ returns-in-Fetch-clause-step g c = let goes = c.requires.work.0 in
 pub returns-in-Memory-clause-step : goal.returns-in-Memory-clause-step
 returns-in-Memory-clause-step g c = let goes = c.requires.work.0 in
     unserved_step _ _ _ _ _ _ goes.number _ goes.reads.asked.next c.reply-in-Memory.ensures c.requires.knows c.requires.here c.requires.work.1 goes.client_is c.in-Memory.ensures.core refl refl refl refl c.keeps.ensures.few
+
+pub returns-in-Bytes-clause-calm : goal.returns-in-Bytes-clause-calm
+returns-in-Bytes-clause-calm g c = calm_ended _ _ _ _ c.in-Bytes.ensures.core
+
+pub returns-in-Fetch-clause-calm : goal.returns-in-Fetch-clause-calm
+returns-in-Fetch-clause-calm g c = calm_ended _ _ _ _ c.in-Fetch.ensures.core
+
+pub returns-in-Memory-clause-calm : goal.returns-in-Memory-clause-calm
+returns-in-Memory-clause-calm g c = calm_ended _ _ _ _ c.in-Memory.ensures.core

@@ -5,6 +5,7 @@ use Rattle.pfc_actor.proofs.Cores.{own_step}
 use Rattle.pfc_actor.proofs.Holding.{placed_weighs, of_file}
 use Rattle.pfc_actor.proofs.Going.{planned_step}
 use Rattle.pfc_actor.proofs.Steps.{own_answered}
+use Rattle.pfc_actor.proofs.Calm.{calm_still, calm_plans}
 use Rattle.pfc_actor.proofs.reading.plan.Goals as goal
 
 pub returns-in-Ok-clause-work : goal.returns-in-Ok-clause-work
@@ -27,3 +28,9 @@ returns-in-Ok-clause-step g c = planned_step _ _ _ _ _ _ _ _ c.in-Ok.ensures.ok 
 pub returns-in-Err-clause-step : goal.returns-in-Err-clause-step
 returns-in-Err-clause-step g c =
     own_step _ _ _ _ _ _ _ _ (own_answered _ _ _ _ _ _ _ 0 (λ w. refl) refl refl (λ i. refl) c.reply.ensures c.requires.work.1.asked.next refl refl refl refl (omega arith) (omega arith) refl) c.in-Err.ensures.memory
+
+pub returns-in-Ok-clause-calm : goal.returns-in-Ok-clause-calm
+returns-in-Ok-clause-calm g c = calm_plans _ _ _ _ _ c.in-Ok.ensures.ok
+
+pub returns-in-Err-clause-calm : goal.returns-in-Err-clause-calm
+returns-in-Err-clause-calm g c = calm_still _ _ c.in-Err.ensures.memory

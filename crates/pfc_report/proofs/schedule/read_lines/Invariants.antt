@@ -7,7 +7,7 @@ use Rattle.pfc_report.proofs.schedule.read_lines.Given as goal
 
 abbrev pub invariant-lines : goal.invariant-lines
 invariant-lines l = record {
-  said : extended (map line_of l.steps.items) (all_said l.number (pieces_of 10 l.rest)) ≡ all_said 1 (pieces_of 10 l.text);
+  said : extended (map line_of l.steps.items) (all_said l.writers l.number (pieces_of 10 l.rest)) ≡ all_said l.writers 1 (pieces_of 10 l.text);
   small : l.number + length l.rest ≤ 67108865;
 }
 

@@ -1,6 +1,6 @@
 use Rattle.std.proofs.Common.{rules}
 use Rattle.pfc_actor.specs.Clients.{ClientView, IsDone}
-use Rattle.pfc_scene.proofs.Scenes.{more_rows}
+use Rattle.pfc_scene.proofs.Casts.{more_rows}
 use Rattle.pfc_scene.proofs.run.all_done.Goals as goal
 
 pub loop-j-preserved : goal.loop-j-preserved

@@ -1,9 +1,36 @@
-use Rattle.std.proofs.Common.{◌∙◌, sym}
-use Rattle.pfc_scene.proofs.Playing.{goes_none, numbers_from_who}
+use Rattle.std.proofs.Common.{◌≡◌, ◌∙◌, List, ap, sym, subst}
+use Rattle.pfc_world.specs.Counts.{RoseBy}
+use Rattle.pfc_actor.specs.Backings.{depot_of}
+use Rattle.pfc_scene.specs.Scenes.{SceneView, IsLentBy, settled}
+use Rattle.pfc_scene.proofs.Playing.{goes_none, writes_none, numbers_from_who}
 use Rattle.pfc_scene.proofs.run.play_step.Goals as goal
 
+pub returns-in-Ask-clause-lent : goal.returns-in-Ask-clause-lent
+returns-in-Ask-clause-lent g c = subst (λ (v : SceneView). IsLentBy (depot_of g.P.Depot.out g.P.Depot.lent g.P.Depot.faults c.args.depot.now) v.backings) (sym c.ask.ensures.rest) c.requires.lent
+
+pub returns-in-Ask-clause-paid : goal.returns-in-Ask-clause-paid
+returns-in-Ask-clause-paid g c f rose = subst (λ (v : SceneView). RoseBy f (settled v.cores v.backings) (g.P.Depot.faults c.args.depot.now)) (sym c.ask.ensures.rest) rose
+
+pub returns-in-Ask-clause-block_size : goal.returns-in-Ask-clause-block_size
+returns-in-Ask-clause-block_size g c = ap (λ (v : SceneView). v.block_size) c.ask.ensures.rest
+
+pub returns-in-Go-clause-paid : goal.returns-in-Go-clause-paid
+returns-in-Go-clause-paid g c = c.go.ensures.plays.paid
+
 pub returns-in-Go-clause-asked : goal.returns-in-Go-clause-asked
-returns-in-Go-clause-asked g c = rw c.in-Go.is (c.go.ensures.same ∙ sym (goes_none c.in-Go.client c.in-Go.times _))
+returns-in-Go-clause-asked g c = rw c.in-Go.is (c.go.ensures.plays.same ∙ sym (goes_none c.in-Go.client c.in-Go.times _))
 
 pub returns-in-Go-clause-numbers : goal.returns-in-Go-clause-numbers
-returns-in-Go-clause-numbers g c = numbers_from_who _ _ c.go.ensures.same
+returns-in-Go-clause-numbers g c = numbers_from_who _ _ c.go.ensures.plays.same
+
+pub returns-in-Write-clause-lent : goal.returns-in-Write-clause-lent
+returns-in-Write-clause-lent g c = c.write.ensures.lent (depot_of g.P.Depot.out g.P.Depot.lent g.P.Depot.faults c.args.depot.now) c.requires.lent
+
+pub returns-in-Write-clause-paid : goal.returns-in-Write-clause-paid
+returns-in-Write-clause-paid g c f rose = subst (λ n. RoseBy f n (g.P.Depot.faults c.args.depot.now)) (sym c.write.ensures.settled_is) rose
+
+pub returns-in-Write-clause-asked : goal.returns-in-Write-clause-asked
+returns-in-Write-clause-asked g c = rw c.in-Write.is (c.write.ensures.same ∙ sym (writes_none c.in-Write.writer c.in-Write.times _))
+
+pub returns-in-Write-clause-numbers : goal.returns-in-Write-clause-numbers
+returns-in-Write-clause-numbers g c = numbers_from_who _ _ c.write.ensures.same

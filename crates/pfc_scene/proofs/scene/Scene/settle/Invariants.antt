@@ -1,11 +1,13 @@
-use Rattle.std.proofs.Common.{◌≡◌, ◌<◌, length, map}
-use Rattle.pfc_scene.specs.Scenes.{who}
+use Rattle.std.proofs.Common.{◌≡◌, ◌<◌, length}
+use Rattle.pfc_actor.specs.Backings.{depot_of, IsSoundAtHome}
+use Rattle.pfc_scene.specs.Scenes.{IsLentBy, Plays}
 use Rattle.pfc_scene.proofs.scene.Scene.settle.Given as goal
 
 abbrev pub invariant-loop-turn : goal.invariant-loop-turn
 invariant-loop-turn g l = record {
-  same : map who l.self.clients ≡ map who l.fn.self.clients;
+  sound : IsSoundAtHome g.W.World.told g.P.Data.DataDev.told g.W.World.files (g.P.Depot.home_data l.depot) (g.P.Depot.home_main l.depot);
+  lent : IsLentBy (depot_of g.P.Depot.out g.P.Depot.lent g.P.Depot.faults l.depot) l.self.backings;
+  plays : Plays l.fn.self (depot_of g.P.Depot.out g.P.Depot.lent g.P.Depot.faults l.fn.depot) l.self (depot_of g.P.Depot.out g.P.Depot.lent g.P.Depot.faults l.depot);
+  unlisted : g.P.Depot.unlisted l.depot ≡ g.P.Depot.unlisted l.fn.depot;
   low : l.j < length l.self.clients;
-  length : length l.self.clients ≡ length l.fn.self.clients;
-  block_size : l.self.block_size ≡ l.fn.self.block_size;
 }

@@ -1,11 +1,9 @@
-use Rattle.std.proofs.Common.{◌≡◌, ◌<◌, length, map}
-use Rattle.pfc_scene.specs.Scenes.{who}
+use Rattle.std.proofs.Common.{◌<◌, length}
+use Rattle.pfc_scene.specs.Scenes.{Moves}
 use Rattle.pfc_scene.proofs.scene.Scene.shut.Given as goal
 
 abbrev pub invariant-loop-descriptor : goal.invariant-loop-descriptor
 invariant-loop-descriptor g l = record {
-  same : map who l.self.clients ≡ map who l.fn.self.clients;
+  moves : Moves l.fn.self l.self;
   low : l.j < length l.self.clients;
-  length : length l.self.clients ≡ length l.fn.self.clients;
-  block_size : l.self.block_size ≡ l.fn.self.block_size;
 }

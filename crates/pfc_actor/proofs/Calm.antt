@@ -1,0 +1,110 @@
+-- The calls of a client enter nothing that tells of a failed device.
+use Rattle.std.proofs.Common.{◌≡◌, ℕ, zero, suc, ◌<◌, List, [], ◌∷◌, ◌++◌, refl, ap, arith, Bool, true, false}
+use Rattle.std.specs.Prelude.{◌==◌, if◌then◌else◌, Option, Some, None}
+use Rattle.std.proofs.lemmas.List.{append-nil}
+use Rattle.pfc_base.specs.declared.block.Part.{Part}
+use Rattle.pfc_base.specs.declared.block.Piece.{Piece}
+use Rattle.pfc_log.specs.declared.entry.DropCause.{DropCause}
+use Rattle.pfc_log.specs.declared.entry.Entry.{Entry}
+use Rattle.pfc_log.specs.declared.entry.Entry.TheVariants as e
+use Rattle.pfc_log.specs.declared.entry.Served.{Served}
+use Rattle.pfc_log.specs.declared.entry.Spot.TheVariants as spot
+use Rattle.pfc_log.specs.declared.entry.Way.TheVariants as way
+use Rattle.pfc_log.specs.Charges.{is_calm, GrowsCalmly}
+use Rattle.pfc_log.proofs.Charging.{grows_none, grows_one, grows_on}
+use Rattle.pfc_core.specs.declared.token.Decision.{Decision}
+use Rattle.pfc_core.specs.declared.token.Decision.TheVariants as decision
+use Rattle.pfc_core.specs.Calls.{Decides, Drops, Unpins}
+use Rattle.pfc_core.specs.Finishes.{Finishes, Releases, ReleasesAll, ReleasesDisk, ReleasesDisks, served_entries}
+use Rattle.pfc_core.specs.Leaves.{leaves, pins_on}
+use Rattle.pfc_core.specs.Marks.{Mark, listed}
+use Rattle.pfc_core.specs.View.{CoreView, entered}
+use Rattle.pfc_read.specs.Ends.{EndsRead}
+use Rattle.pfc_read.specs.OpView.{OpView}
+use Rattle.pfc_read.specs.Plans.{DecidesAll, Plans}
+
+pub calm_same : (es es2 : List Entry) → es2 ≡ es → GrowsCalmly es es2
+calm_same es es2 same = rw same (grows_none es)
+
+calm_one : (es es2 : List Entry) (x : Entry) → es2 ≡ es ++ x ∷ [] → is_calm x ≡ true → GrowsCalmly es es2
+calm_one es es2 x is calm = rw is (grows_one es x calm)
+
+-- nothing has changed
+pub calm_still : (c c2 : CoreView) → c2 ≡ c → GrowsCalmly c.entries c2.entries
+calm_still c c2 same = calm_same c.entries c2.entries (ap (λ (v : CoreView). v.entries) same)
+
+-- no entry came
+pub calm_kept : (c c2 : CoreView) → c2 ≡ record c { out = c2.out } → GrowsCalmly c.entries c2.entries
+calm_kept c c2 same = calm_same c.entries c2.entries (ap (λ (v : CoreView). v.entries) same)
+
+-- one calm entry came
+pub calm_entered : (c c2 : CoreView) (x : Entry) (out : List Mark) → c2 ≡ entered c x out → is_calm x ≡ true → GrowsCalmly c.entries c2.entries
+calm_entered c c2 x out enters calm = calm_one c.entries c2.entries x (ap (λ (v : CoreView). v.entries) enters) calm
+
+either : (es one other : List Entry) (q : Bool) → GrowsCalmly es one → GrowsCalmly es other → GrowsCalmly es (if q then one else other)
+either es one other true this that = this
+either es one other false this that = that
+
+by_count : {C : Type 0} (n : ℕ) → (0 < n → C) → (n ≡ 0 → C) → C
+by_count zero some none = none refl
+by_count (suc n) some none = some (omega arith)
+
+-- ---- a plan
+
+calm_decides : (c c2 : CoreView) (n : ℕ) (part : Part) (d : Decision (Unit {0})) → Decides c n part d c2 → GrowsCalmly c.entries c2.entries
+calm_decides c c2 n part (decision.Direct leave) is = calm_entered c c2 (e.Direct part.block n (way.Uncached is.why)) c.out is.enters refl
+calm_decides c c2 n part (decision.Resident pin) is = calm_entered c c2 (e.Hit part.block spot.Ram n) c2.out is.2.enters refl
+calm_decides c c2 n part (decision.Joined pin) is = calm_entered c c2 (e.Join pin.flight part.block n) c2.out is.2.enters refl
+calm_decides c c2 n part (decision.Stored disk) is = calm_entered c c2 (e.Hit part.block spot.Disk n) c2.out is.enters refl
+calm_decides c c2 n part (decision.Fetch ticket pin) is = calm_entered c c2 (e.Begin ticket.number part.block n) c2.out is.enters refl
+
+decides_all : (c c2 : CoreView) (n : ℕ) (parts : List Part) → DecidesAll c n parts c2 → GrowsCalmly c.entries c2.entries
+decides_all c c2 n [] is = calm_still c c2 is
+decides_all c c2 n (part ∷ parts) (d, mid, first, later) = grows_on c.entries mid.entries c2.entries (calm_decides c mid n part d first) (decides_all mid c2 n parts later)
+
+pub calm_plans : (c c2 : CoreView) (n : ℕ) (piece : Piece) (op : OpView) → Plans c n piece op c2 → GrowsCalmly c.entries c2.entries
+calm_plans c c2 n piece op plans = grows_on c.entries plans.mid.entries c2.entries (calm_kept c plans.mid plans.begins.rest) (decides_all plans.mid c2 n plans.decided plans.decides)
+
+-- ---- an end
+
+unpinned : (c c2 : CoreView) (pin : Mark) → Unpins c pin c2 → GrowsCalmly c.entries c2.entries
+unpinned c c2 pin unpins = rw (ap (λ (v : CoreView). v.entries) unpins.enters)
+    (either c.entries (c.entries ++ e.Left pin.block ∷ []) c.entries (leaves c.entries c.out pin.block pin.flight) (grows_one c.entries (e.Left pin.block) refl) (grows_none c.entries))
+
+released : (c c2 : CoreView) (pin : Mark) → Releases c pin c2 → GrowsCalmly c.entries c2.entries
+released c c2 pin releases = by_count (listed pin c.out) (λ some. unpinned c c2 pin (releases.known some)) (λ none. calm_still c c2 (releases.strange none))
+
+released_all : (c c2 : CoreView) (pins : List Mark) → ReleasesAll c pins c2 → GrowsCalmly c.entries c2.entries
+released_all c c2 [] is = calm_still c c2 is
+released_all c c2 (pin ∷ pins) (mid, first, later) = grows_on c.entries mid.entries c2.entries (released c mid pin first) (released_all mid c2 pins later)
+
+disk_released : (c c2 : CoreView) (disk : Mark) → ReleasesDisk c disk c2 → GrowsCalmly c.entries c2.entries
+disk_released c c2 disk releases = by_count (listed disk c.out) (λ some. calm_kept c c2 (releases.known some).rest) (λ none. calm_still c c2 (releases.strange none))
+
+disks_released : (c c2 : CoreView) (disks : List Mark) → ReleasesDisks c disks c2 → GrowsCalmly c.entries c2.entries
+disks_released c c2 [] is = calm_still c c2 is
+disks_released c c2 (disk ∷ disks) (mid, first, later) = grows_on c.entries mid.entries c2.entries (disk_released c mid disk first) (disks_released mid c2 disks later)
+
+served : (es : List Entry) (n : ℕ) (answer : Option Served) → GrowsCalmly es (es ++ served_entries n answer)
+served es n None = calm_same es (es ++ []) (append-nil es)
+served es n (Some s) = grows_one es (e.Served n s) refl
+
+finished : (c c2 : CoreView) (reading : Mark) (pins disks : List Mark) (answer : Option Served) → Finishes c reading pins disks answer c2 → GrowsCalmly c.entries c2.entries
+finished c c2 reading pins disks answer f =
+    let first : GrowsCalmly c.entries f.after.entries = rw (ap (λ (v : CoreView). v.entries) f.ends.enters) (served c.entries reading.client answer) in
+    let pinned : GrowsCalmly c.entries f.unpinned.entries = grows_on c.entries f.after.entries f.unpinned.entries first (released_all f.after f.unpinned pins f.releases) in
+    grows_on c.entries f.unpinned.entries c2.entries pinned (disks_released f.unpinned c2 disks f.disks_end)
+
+pub calm_ended : (c c2 : CoreView) (op : OpView) (answer : Option Served) → EndsRead c op answer c2 → GrowsCalmly c.entries c2.entries
+calm_ended c c2 op answer ended = by_count (listed op.reading c.out)
+    (λ some. let closes = ended.known some in finished c c2 op.reading closes.pins closes.disks answer closes.finishes)
+    (λ none. calm_still c c2 (ended.strange none))
+
+-- ---- a block that is dropped
+
+pub calm_dropped : (c c2 : CoreView) (job : Mark) (why : DropCause) → is_calm (e.Dropped job.block why) ≡ true → Drops c job why c2 → GrowsCalmly c.entries c2.entries
+calm_dropped c c2 job why calm drops =
+    let one = grows_one c.entries (e.Dropped job.block why) calm in
+    rw (ap (λ (v : CoreView). v.entries) drops.enters)
+    (either c.entries _ _ (0 == pins_on job.block job.flight c.out)
+    (grows_on c.entries (c.entries ++ e.Dropped job.block why ∷ []) ((c.entries ++ e.Dropped job.block why ∷ []) ++ e.Left job.block ∷ []) one (grows_one (c.entries ++ e.Dropped job.block why ∷ []) (e.Left job.block) refl)) one)

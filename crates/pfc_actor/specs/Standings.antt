@@ -1,0 +1,62 @@
+-- How contracts see what stands beside a core, and what calls do to it.
+use Rattle.std.specs.Prelude.{◌≡◌, ◌≤◌, ◌+◌, ℕ, Option, Some, None, Result, Ok, Err, min}
+use Rattle.pfc_world.specs.Counts.{Rose, last_count}
+use Rattle.pfc_store.specs.declared.broken.ReadRefusal.{ReadRefusal}
+use Rattle.pfc_store.specs.declared.broken.ReadRefusal.TheVariants as reading
+use Rattle.pfc_core.specs.declared.loan.Did.{Did}
+use Rattle.pfc_core.specs.declared.loan.Did.TheVariants as did
+use Rattle.pfc_core.specs.Lending.{Lends, Gives}
+use Rattle.pfc_core.specs.Loans.{LoanView, IsLoan}
+use Rattle.pfc_core.specs.View.{CoreView}
+use Rattle.pfc_actor.specs.declared.backing.Held.{Held}
+use Rattle.pfc_actor.specs.declared.backing.Held.TheVariants as held
+use Rattle.pfc_actor.specs.Backings.{VolumeView, Stand, Bare, Taken, Open, Lent, path_in}
+
+abbrev pub stand_of : {W D I : Type 0} → Held W D I → Stand
+stand_of held.Bare = Bare
+stand_of (held.Taken volume) = Taken volume.path volume.size
+stand_of (held.Open store) = Open store.path store.size store.block_size
+stand_of (held.Lent loan) = Lent loan.mark loan.did
+
+-- the counts of both devices
+abbrev pub now_of : {W D I : Type 0} → (D → ℕ) → (I → ℕ) → Held W D I → ℕ × ℕ
+now_of one two held.Bare = (0, 0)
+now_of one two (held.Taken volume) = (one volume.first, two volume.second)
+now_of one two (held.Open store) = (one store.first, two store.second)
+now_of one two (held.Lent loan) = (one loan.store.first, two loan.store.second)
+
+-- the file and the devices of what stands there
+abbrev pub IsParted : {W D I : Type 0} → (D → ℕ) → (I → ℕ) → Held W D I → Option (VolumeView D I) → Type 0
+IsParted one two h None = stand_of h ≡ Bare
+IsParted one two h (Some v) = (path_in (stand_of h) ≡ Some v.path) × (now_of one two h ≡ (one v.first, two v.second))
+
+-- the store that stood there is lent
+abbrev pub LentBy : {W D I : Type 0} → CoreView → Held W D I → CoreView → Held W D I → Type 0
+LentBy old (held.Open store) new (held.Lent loan) = Lends old (Some store) loan new × IsLoan loan.mark loan.store
+LentBy old _ new _ = ⊥
+
+-- the loan that stood there is given back
+abbrev pub GivenBy : {W D I : Type 0} → CoreView → Held W D I → CoreView → Held W D I → Type 0
+GivenBy old (held.Lent loan) new (held.Open store) = Gives old loan new × IsLoan loan.mark loan.store × (store ≡ loan.store)
+GivenBy old _ new _ = ⊥
+
+-- a write that failed rose the count of its device
+abbrev pub BreaksBy : ℕ → ℕ → Did → Type 0
+BreaksBy before after did.Broke = Rose before after
+BreaksBy before after _ = Unit {0}
+
+-- a write by a loan that did nothing yet
+pub record WritesBy {D I : Type 0} (faults : D → ℕ) (old new : LoanView D I) : Type 0 where
+  pub idle : old.did ≡ did.Nothing
+  pub mark_is : new.mark ≡ old.mark
+  pub second_is : new.store.second ≡ old.store.second
+  pub rises : faults old.store.first ≤ faults new.store.first
+  pub breaks : BreaksBy (faults old.store.first) (faults new.store.first) new.did
+
+-- one more failed read is unspent where the device failed in it
+abbrev pub Counted : ℕ → Option (Result Unit ReadRefusal) → ℕ → Type 0
+Counted before None after = after ≡ before
+Counted before (Some (Ok u)) after = after ≡ before
+Counted before (Some (Err reading.Absent)) after = after ≡ before
+Counted before (Some (Err (reading.Frozen broken))) after = after ≡ before
+Counted before (Some (Err (reading.Device broken))) after = after ≡ min (before + 1) last_count

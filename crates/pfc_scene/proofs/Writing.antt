@@ -1,0 +1,118 @@
+-- What a step of a writer keeps.
+use Rattle.std.proofs.Common.{◌≡◌, ℕ, ◌+◌, ◌<◌, List, length, get_or, set, sum_by, refl, subst, sym, ap, ◌∙◌, arith, Bool, true, false, IsTrue}
+use Rattle.std.specs.Prelude.{Option, Some, None}
+use Rattle.std.proofs.lemmas.List.{length-set, get_or-set_same}
+use Rattle.std.proofs.lemmas.List.Sums.{sum_by-set}
+use Rattle.pfc_log.specs.Charges.{GrowsCalmly}
+use Rattle.pfc_log.specs.Tallies.{tally}
+use Rattle.pfc_log.proofs.Charging.{grows_none, theres_calm}
+use Rattle.pfc_core.specs.Marks.{Mark}
+use Rattle.pfc_core.specs.Calls.{foreign}
+use Rattle.pfc_core.specs.View.{CoreView}
+use Rattle.pfc_writer.specs.Queue.{QueueView}
+use Rattle.pfc_writer.specs.Writer.{work_weight, EndsWork}
+use Rattle.pfc_actor.specs.Backings.{BackingView, KeepsBacking}
+use Rattle.pfc_scene.specs.Scenes.{SceneView, IsScene, Moves, beside, lent_of}
+use Rattle.pfc_scene.proofs.Casts.{StaysFor, stays_by, cast_beside, cast_core, no_core}
+use Rattle.pfc_scene.proofs.Backed.{backed_by, backed_on, calm_charges, lent_set, settled_backing, settled_core}
+
+-- a sum where one element is another
+one_of : {X : Type 0} (f : X → ℕ) (xs : List X) (i : ℕ) (x y : X) → i < length xs → x ≡ get_or xs i x → sum_by f (set xs i y) + f x ≡ sum_by f xs + f y
+one_of f xs i x y li ex = let at = sum_by-set f xs i y x li in let here = ap f ex in omega (arith, at, here)
+
+-- ---- a writer and the queue
+
+-- writer w is at another job, and others wait
+abbrev pub with_job : SceneView → ℕ → Option Mark → QueueView → SceneView
+with_job v w x2 q2 = record v { writers = set v.writers w x2; jobs = q2.jobs; capacity = q2.capacity }
+
+pub job_scene : (v : SceneView) (w : ℕ) (x x2 : Option Mark) (q2 : QueueView) → IsScene v → w < length v.writers → x ≡ get_or v.writers w x →
+    ((f : Mark → ℕ) → work_weight f x2 + sum_by f q2.jobs ≡ work_weight f x + sum_by f v.jobs) → IsScene (with_job v w x2 q2)
+job_scene v w x x2 q2 s lw ex tokens = record {
+  cast = cast_beside v.block_size (λ f. beside f v) (λ f. beside f (with_job v w x2 q2)) v.clients v.cores s.cast
+      (λ f. let t = tokens f in let one = one_of (work_weight f) v.writers w x x2 lw ex in omega (arith, t, one));
+  backed = s.backed;
+}
+
+pub job_moves : (v : SceneView) (w : ℕ) (x2 : Option Mark) (q2 : QueueView) → q2.capacity ≡ v.capacity → Moves v (with_job v w x2 q2)
+job_moves v w x2 q2 same = record { same = refl; clients_are = refl; writers_are = length-set v.writers w x2; block_size = refl; capacity = same; lent = λ d h. h; settled_is = refl }
+
+-- ---- a writer and a backing
+
+-- so is what stands beside core i
+abbrev pub with_turn : SceneView → ℕ → ℕ → Option Mark → BackingView → SceneView
+with_turn v w i x2 b2 = record v { backings = set v.backings i b2; writers = set v.writers w x2 }
+
+pub turn_scene : (v : SceneView) (w i : ℕ) (x x2 : Option Mark) (b b2 : BackingView) → IsScene v → w < length v.writers → i < length v.cores → x ≡ get_or v.writers w x → b ≡ get_or v.backings i b →
+    x2 ≡ x → KeepsBacking b b2 → IsScene (with_turn v w i x2 b2)
+turn_scene v w i x x2 b b2 s lw li ex eb same keeps = record {
+  cast = cast_beside v.block_size (λ f. beside f v) (λ f. beside f (with_turn v w i x2 b2)) v.clients v.cores s.cast
+      (λ f.
+      let long = s.backed.long in let lb : i < length v.backings = omega (arith, li, long) in
+      let writers = one_of (work_weight f) v.writers w x x2 lw ex in let job = ap (work_weight f) same in
+      let backings = one_of (lent_of f) v.backings i b b2 lb eb in let loan = keeps.loan f in omega (arith, writers, job, backings, loan));
+  backed = backed_by v.cores v.backings i b b2 s.backed li eb keeps.backed;
+}
+
+pub turn_moves : (v : SceneView) (w i : ℕ) (x2 : Option Mark) (b b2 : BackingView) → IsScene v → i < length v.cores → b ≡ get_or v.backings i b → KeepsBacking b b2 → Moves v (with_turn v w i x2 b2)
+turn_moves v w i x2 b b2 s li eb keeps = let long = s.backed.long in let lb : i < length v.backings = omega (arith, li, long) in record {
+  same = refl;
+  clients_are = refl;
+  writers_are = length-set v.writers w x2;
+  block_size = refl;
+  capacity = refl;
+  lent = λ d h. lent_set d v.backings i b b2 lb eb keeps.path keeps.before h;
+  settled_is = settled_backing v.cores v.backings i no_core b b2 long li eb keeps.path;
+}
+
+-- ---- a writer and a core
+
+-- a writer ends its job in the core, or nothing has changed
+pub record EndsAt (x : Option Mark) (c : CoreView) (x2 : Option Mark) (c2 : CoreView) : Type 0 where
+  pub tokens : (f : Mark → ℕ) → sum_by f c2.out + work_weight f x ≡ sum_by f c.out + work_weight f x2
+  pub home : c2 ≡ record c { entries = c2.entries; out = c2.out }
+  pub calm : GrowsCalmly c.entries c2.entries
+  pub tallies : (n : ℕ) → tally n c2.entries ≡ tally n c.entries
+
+did_end : (x x2 : Option Mark) (c c2 : CoreView) → EndsWork c x c2 → x2 ≡ None → EndsAt x c x2 c2
+did_end None x2 c c2 ends none = absurd ends
+did_end (Some job) x2 c c2 ends none = record {
+  tokens = λ f. let loses = ends.loses f in let rests = ap (work_weight f) none in omega (arith, loses, rests);
+  home = ends.home;
+  calm = ends.calm;
+  tallies = ends.tallies;
+}
+
+not_ended : (x x2 : Option Mark) (c c2 : CoreView) → x2 ≡ x → c2 ≡ c → EndsAt x c x2 c2
+not_ended x x2 c c2 ex ec = subst (λ y. EndsAt x c y c2) (sym ex) (subst (EndsAt x c x) (sym ec) (record { tokens = λ f. refl; home = refl; calm = grows_none c.entries; tallies = λ n. refl }))
+
+pub ends_at : (q : Bool) (x x2 : Option Mark) (c c2 : CoreView) → (IsTrue q → EndsWork c x c2 × (x2 ≡ None)) → (q ≡ false → (x2 ≡ x) × (c2 ≡ c)) → EndsAt x c x2 c2
+ends_at true x x2 c c2 did same = let h = did refl in did_end x x2 c c2 h.0 h.1
+ends_at false x x2 c c2 did same = let h = same refl in not_ended x x2 c c2 h.0 h.1
+
+-- what is said of the core that stands there is said of the one that was put there
+pub own_put : (cores : List CoreView) (i : ℕ) (v c2 : CoreView) → i < length cores → v ≡ get_or (set cores i c2) i v → sum_by (foreign v) v.out ≡ 0 → sum_by (foreign c2) c2.out ≡ 0
+own_put cores i v c2 li is own = subst (λ (x : CoreView). sum_by (foreign x) x.out ≡ 0) (is ∙ get_or-set_same cores i c2 v li) own
+
+-- so is core i
+abbrev pub with_end : SceneView → ℕ → ℕ → Option Mark → CoreView → SceneView
+with_end v w i x2 c2 = record v { cores = set v.cores i c2; writers = set v.writers w x2 }
+
+pub end_scene : (v : SceneView) (w i : ℕ) (x x2 : Option Mark) (c c2 : CoreView) → IsScene v → w < length v.writers → i < length v.cores → x ≡ get_or v.writers w x → c ≡ get_or v.cores i c →
+    EndsAt x c x2 c2 → sum_by (foreign c2) c2.out ≡ 0 → IsScene (with_end v w i x2 c2)
+end_scene v w i x x2 c c2 s lw li ex ec e own = let st = stays_by c c2 e.home in record {
+  cast = cast_core v.block_size (λ f. beside f v) (λ f. beside f (with_end v w i x2 c2)) v.clients v.cores i c c2 s.cast li ec st own (theres_calm c.entries c2.entries e.calm) e.tallies
+      (λ f. let t = e.tokens f in let writers = one_of (work_weight f) v.writers w x x2 lw ex in omega (arith, t, writers));
+  backed = backed_on v.cores v.backings i c c2 s.backed li ec st (calm_charges c c2 st e.calm);
+}
+
+pub end_moves : (v : SceneView) (w i : ℕ) (x x2 : Option Mark) (c c2 : CoreView) → IsScene v → i < length v.cores → c ≡ get_or v.cores i c → EndsAt x c x2 c2 → Moves v (with_end v w i x2 c2)
+end_moves v w i x x2 c c2 s li ec e = record {
+  same = refl;
+  clients_are = refl;
+  writers_are = length-set v.writers w x2;
+  block_size = refl;
+  capacity = refl;
+  lent = λ d h. h;
+  settled_is = settled_core v.cores v.backings i c c2 s.backed.long li ec (calm_charges c c2 (stays_by c c2 e.home) e.calm);
+}

@@ -1,0 +1,21 @@
+use Rattle.std.proofs.Common.{◌∙◌, refl, arith, rules}
+use Rattle.pfc_scene.proofs.Moving.{plays_not, plays_on}
+use Rattle.pfc_scene.proofs.scene.Scene.go.Goals as goal
+
+pub loop-step-init : goal.loop-step-init
+loop-step-init g c = record {
+  sound = c.requires.sound;
+  lent = c.requires.lent;
+  plays = plays_not _ _;
+  unlisted = refl;
+  low = search rules;
+}
+
+pub loop-step-preserved : goal.loop-step-preserved
+loop-step-preserved g c = record {
+  sound = c.step.ensures.sound;
+  lent = c.step.ensures.lent;
+  plays = plays_on _ _ _ _ _ _ c.loop-step.invariant.plays c.step.ensures.plays;
+  unlisted = c.step.ensures.unlisted ∙ c.loop-step.invariant.unlisted;
+  low = omega (arith, c.step.ensures.plays.clients_are, c.loop-step.invariant.low);
+}

@@ -1,0 +1,6 @@
+use Rattle.pfc_actor.specs.Backings.{bare}
+use Rattle.pfc_scene.proofs.Opening.{owes_paid}
+use Rattle.pfc_scene.proofs.scene.Scene.lose_store.Goals as goal
+
+pub returns-clause-plays : goal.returns-clause-plays
+returns-clause-plays g c = owes_paid _ _ _ _ _ c.return_volume.ensures.plays c.lose_volume.ensures (c.return_volume.ensures.pays bare (c.requires.covers bare))

@@ -1,0 +1,31 @@
+use Rattle.std.proofs.Common.{rules, sym, subst}
+use Rattle.std.specs.Prelude.{slice_index_or}
+use Rattle.pfc_core.specs.View.{CoreView}
+use Rattle.pfc_actor.specs.Clients.{ClientView}
+use Rattle.pfc_actor.specs.Stages.{Here}
+use Rattle.pfc_scene.specs.Scenes.{SceneView}
+use Rattle.pfc_scene.proofs.Casts.{knows}
+use Rattle.pfc_scene.proofs.Moving.{moves_from}
+use Rattle.pfc_scene.proofs.Scenes.{on_moves, on_scene, own_at}
+use Rattle.pfc_scene.proofs.scene.Scene.returned.Goals as goal
+
+pub returned-requires-clause-knows : goal.returned-requires-clause-knows
+returned-requires-clause-knows g c κs within =
+    knows _ _ _ _ c.args.j c.args.i c.index_mut.result.now c.index_mut-2.result.now c.self.invariant.cast (search rules) (search rules) c.index_mut.ensures.value c.index_mut-2.ensures.value
+
+pub returned-requires-clause-here : goal.returned-requires-clause-here
+returned-requires-clause-here g c κs within =
+    let here = subst (λ (v : SceneView). (d : ClientView) (e : CoreView) → Here (slice_index_or v.clients c.args.j d).book (slice_index_or v.clients c.args.j d).stage (slice_index_or v.cores c.args.i e)) (sym c.self.view_is) c.requires.here in
+    subst (λ (a : ClientView). Here a.book a.stage c.index_mut-2.result.now) (sym c.index_mut.ensures.value)
+    (subst (λ (v : CoreView). Here (slice_index_or c.self.inside.clients.items c.args.j c.index_mut.result.now).book (slice_index_or c.self.inside.clients.items c.args.j c.index_mut.result.now).stage v) (sym c.index_mut-2.ensures.value)
+    (here c.index_mut.result.now c.index_mut-2.result.now))
+
+pub invariant_of-self : goal.invariant_of-self
+invariant_of-self g c =
+    on_scene _ c.args.j c.args.i c.index_mut.result.now c.returned.new.self c.index_mut-2.result.now c.returned.new.core c.self.invariant (search rules) (search rules)
+    c.index_mut.ensures.value c.index_mut-2.ensures.value c.returned.ensures.step c.returned.ensures.calm (own_at c.self.inside.cores.items c.args.i c.returned.new.core c.index.result.now (search rules) c.index.ensures c.own.ensures)
+
+pub returns : goal.returns
+returns g c =
+    moves_from _ _ _ c.self.view_is
+    (on_moves _ c.args.j c.args.i c.index_mut.result.now c.returned.new.self c.index_mut-2.result.now c.returned.new.core c.self.invariant (search rules) c.index_mut.ensures.value c.index_mut-2.ensures.value c.returned.ensures.step c.returned.ensures.calm)

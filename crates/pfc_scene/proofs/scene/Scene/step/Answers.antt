@@ -1,0 +1,5 @@
+use Rattle.pfc_scene.proofs.Moving.{plays_on}
+use Rattle.pfc_scene.proofs.scene.Scene.step.Goals as goal
+
+pub returns-then-is_taken-clause-plays : goal.returns-then-is_taken-clause-plays
+returns-then-is_taken-clause-plays g c = plays_on _ _ _ _ _ _ c.move_on.ensures.plays c.move_on-then-is_taken.ensures.plays
