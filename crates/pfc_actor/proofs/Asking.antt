@@ -14,9 +14,9 @@ use Rattle.pfc_actor.specs.Books.{BookView, IsNext}
 use Rattle.pfc_actor.specs.StageView.{StageView}
 use Rattle.pfc_actor.specs.StageView as st
 use Rattle.pfc_actor.specs.Stages.{AtWork, IsAsked, GoesOn, Loads, shares}
-use Rattle.pfc_actor.specs.Steps.{IsTallied}
+use Rattle.pfc_actor.specs.Steps.{IsTallied, full_in}
 use Rattle.pfc_actor.specs.Clients.{ClientView, IsClient, Moves}
-use Rattle.pfc_actor.proofs.Steps.{shrinks_same}
+use Rattle.pfc_actor.proofs.Steps.{full_same, shrinks_same}
 
 abbrev pub longer : BookView → List ℕ → BookView
 longer b line = record b { asked = b.asked ++ line ∷ [] }
@@ -48,6 +48,7 @@ goes_longer b line op given goes = record {
   size_is = goes.size_is;
   client_is = goes.client_is;
   given_is = goes.given_is;
+  numbered = goes.numbered;
 }
 
 loads_longer : (b : BookView) (line : List ℕ) (op : OpView) (disk : Mark) (part : Part) → Loads b op disk part → Loads (longer b line) op disk part
@@ -63,9 +64,9 @@ work_longer b line (st.Planning number piece) going work = (work.0, record { ask
 work_longer b line (st.Closing number) going work = (asked_longer b line _ work.0, work.1)
 work_longer b line st.Closed going work = work
 work_longer b line (st.Reading op) going work = goes_longer b line op _ work
-work_longer b line (st.Landed op job) going work = (goes_longer b line op _ work.0, work.1)
-work_longer b line (st.Full op job) going work = (goes_longer b line op _ work.0, work.1)
-work_longer b line (st.Running op ticket) going work = (goes_longer b line op _ work.0, work.1)
+work_longer b line (st.Landed op job) going work = (goes_longer b line op _ work.0, work.1, work.2)
+work_longer b line (st.Full op job capacity) going work = (goes_longer b line op _ work.0, work.1, work.2)
+work_longer b line (st.Running op ticket) going work = (goes_longer b line op _ work.0, work.1, work.2)
 work_longer b line (st.Directing op leave) going work = (goes_longer b line op _ work.0, work.1)
 work_longer b line (st.Looking op pin part) going work = (goes_longer b line op _ work.0, work.1)
 work_longer b line (st.Loading op disk part) going work = loads_longer b line op disk part work
@@ -91,7 +92,7 @@ tallied_longer b l line stage t few old =
     }
 
 pub moves_same : (a a2 : ClientView) → a2 ≡ a → Moves a a2
-moves_same a a2 same = rw same (record { number = refl; tokens = λ w. refl; tallied = λ t old. old; elsewhere = λ i. shrinks_same (shares i a.stage) })
+moves_same a a2 same = rw same (record { number = refl; tokens = λ w. refl; tallied = λ t old. old; elsewhere = λ i. shrinks_same (shares i a.stage); full = full_same (full_in a.stage) })
 
 pub moves_longer : (a a2 : ClientView) (line : List ℕ) → length a.book.replies ≤ length a.book.asked → a2 ≡ record a { book = longer a.book line } → Moves a a2
 moves_longer a a2 line few same = rw same (record {
@@ -99,4 +100,5 @@ moves_longer a a2 line few same = rw same (record {
   tokens = λ w. refl;
   tallied = λ t old. tallied_longer a.book a.line line a.stage t few old;
   elsewhere = λ i. shrinks_same (shares i a.stage);
+  full = full_same (full_in a.stage);
 })

@@ -1,8 +1,8 @@
 -- What stands beside a core, where its store is lent or comes back.
 use Rattle.std.proofs.Common.{◌≡◌, ℕ, refl, sym, subst, Bool, true, false}
 use Rattle.std.specs.Prelude.{Option, Some, None, IsSome, MatchBool}
-use Rattle.pfc_core.specs.Marks.{Mark}
 use Rattle.pfc_core.specs.View.{CoreView}
+use Rattle.pfc_writer.specs.Writer.{Task}
 use Rattle.pfc_actor.specs.declared.backing.Held.{Held}
 use Rattle.pfc_actor.specs.declared.backing.Held.TheVariants as held
 use Rattle.pfc_actor.specs.Backings.{LoanStep}
@@ -42,7 +42,7 @@ module _ {W D I : Type 0} (c c2 : CoreView) (faults : D → ℕ) (counts : I →
   gives_or_not h h2 true is = given_step h h2 is
   gives_or_not h h2 false is = same_step h h2 is
 
--- what holds of a writer's job, where it has one
-pub with_job : {P : Type 0} (o : Option Mark) → IsSome o → ((job : Mark) → o ≡ Some job → P) → P
-with_job None some of_job = absurd cc
-with_job (Some job) some of_job = of_job job refl
+-- what holds of a writer's task, where it has one
+pub with_task : {P : Type 0} (o : Option Task) → IsSome o → ((task : Task) → o ≡ Some task → P) → P
+with_task None some of_task = absurd cc
+with_task (Some task) some of_task = of_task task refl

@@ -1,6 +1,6 @@
 -- What stands beside a core, as calls go on.
-use Rattle.std.proofs.Common.{◌≡◌, ℕ, ◌+◌, List, [], ◌∷◌, ◌++◌, refl, sym, ap, subst, ◌∙◌, arith, Bool, true, false}
-use Rattle.std.specs.Prelude.{Result, Ok, Err, Some, sum_by, if◌then◌else◌}
+use Rattle.std.proofs.Common.{◌≡◌, ℕ, ◌+◌, List, [], ◌∷◌, ◌++◌, refl, sym, ap, subst, ◌∙◌, arith, Bool, true, false, inl, inr}
+use Rattle.std.specs.Prelude.{Result, Ok, Err, Option, Some, None, IfSome, sum_by, if◌then◌else◌}
 use Rattle.pfc_world.specs.Disk.{Disk}
 use Rattle.pfc_world.specs.Files.{Files}
 use Rattle.pfc_world.specs.Info.{Info}
@@ -25,10 +25,11 @@ use Rattle.pfc_core.specs.declared.loan.Did.{Did}
 use Rattle.pfc_core.specs.declared.loan.Did.TheVariants as did
 use Rattle.pfc_core.specs.Lending.{Lends, Gives, with_did}
 use Rattle.pfc_core.specs.Loans.{LoanView, IsLoan, WritesLent, did_by}
-use Rattle.pfc_core.specs.Marks.{Mark}
+use Rattle.pfc_core.specs.Marks.{Mark, LoanKind}
 use Rattle.pfc_core.specs.View.{CoreView}
-use Rattle.pfc_actor.specs.Backings.{BackingView, Stand, Bare, Taken, Open, Lent, broken_in, Covers, StandsFor, HasCovered, IsBackingOf, LoanStep, AllowsLeave}
-use Rattle.pfc_actor.specs.Standings.{BreaksBy, WritesBy}
+use Rattle.pfc_actor.specs.Backings.{BackingView, Stand, Bare, Taken, Open, Lent, broken_in, written_in, Covers, EntersBy, StandsFor, HasCovered, IsBackingOf, LoanStep, AllowsLeave}
+use Rattle.pfc_actor.specs.Standings.{BreaksBy, WritesBlock, WritesBy}
+use Rattle.pfc_actor.proofs.Growing.{plain_one, plain_same}
 
 abbrev pub beside : Stand → ℕ × ℕ → ℕ × ℕ → ℕ → BackingView
 beside s before now unspent = record { stand = s; before = before; now = now; unspent = unspent }
@@ -52,15 +53,45 @@ writes_by {D = D} {I = I} {faults = faults} old new i result w idle =
       breaks = subst (λ (d : Did). BreaksBy (faults old.store.first) (faults new.store.first) d) (sym is) (breaks_by faults _ _ i result w.writes);
     }
 
+block_by : (i : ℕ) (result : Result Put WriteRefusal) → WritesBlock i (did_by i result)
+block_by i (Ok put.Wrote) = refl
+block_by i (Ok put.AlreadyThere) = tt
+block_by i (Err (writing.Frozen b)) = tt
+block_by i (Err (writing.Device b)) = tt
+
+-- what is written is the block of the job
+pub writes_block : {D I : Type 0} {told : Bool} {files : Files} {told_data told_info : Bool} {faults : D → ℕ} {seen : D → Run Disk} {shown : I → Run Info} (old new : LoanView D I) (i : ℕ) (result : Result Put WriteRefusal) →
+    WritesLent told files told_data told_info faults seen shown old i result new → WritesBlock i new.did
+writes_block {D = D} {I = I} old new i result w = subst (WritesBlock i) (sym (ap (λ (l : LoanView D I). l.did) w.rest)) (block_by i result)
+
 -- ---- loans that go and come
 
+enters_none : (o : Option ℕ) (c : CoreView) → EntersBy o c c
+enters_none None c = plain_same c.entries c.entries refl
+enters_none (Some i) c = inl refl
+
+stays_written : (o : Option ℕ) (c : CoreView) → IfSome o (λ i. (o ≡ Some i) × (c ≡ c))
+stays_written None c = tt
+stays_written (Some i) c = (refl, refl)
+
 pub step_none : (c : CoreView) (b : BackingView) → LoanStep c b c b
-step_none c b = record { tokens = λ w. refl; home = refl; tallies = λ n. refl; theres = refl; path = refl; before = refl; backed = λ old. old; charges = λ bare. refl }
+step_none c b = record {
+  tokens = λ w. refl;
+  home = refl;
+  tallies = λ n. refl;
+  theres = refl;
+  path = refl;
+  before = refl;
+  backed = λ old. old;
+  charges = λ bare. refl;
+  enters = enters_none (written_in b.stand) c;
+  written = stays_written (written_in b.stand) c;
+}
 
 module _ (c : CoreView) (p now : ℕ × ℕ) (u : ℕ) (m : Mark) (path : List ℕ) (size k : ℕ) (path_is : m.path ≡ path) (size_is : m.size ≡ size) (block_is : m.block_size ≡ k) where
-  goes : (o : List Mark) (d : Did) → ((w : Mark → ℕ) → sum_by w o ≡ sum_by w c.out + w m) → d ≡ did.Nothing →
+  goes : (o : List Mark) (d : Did) → ((w : Mark → ℕ) → sum_by w o ≡ sum_by w c.out + w m) → d ≡ did.Nothing → m.kind ≡ LoanKind →
       LoanStep c (beside (Open path size k) p now u) (record c { out = o }) (beside (Lent m d) p now u)
-  goes o d gains idle = record {
+  goes o d gains idle kind = record {
     tokens = λ w. omega (arith, gains w);
     home = refl;
     tallies = λ n. refl;
@@ -68,16 +99,18 @@ module _ (c : CoreView) (p now : ℕ × ℕ) (u : ℕ) (m : Mark) (path : List �
     path = ap Some path_is;
     before = refl;
     backed = λ old. record {
-      stands = ((path_is ∙ old.stands.0.0, size_is ∙ old.stands.0.1, block_is ∙ old.stands.0.2), old.stands.1);
+      stands = ((path_is ∙ old.stands.0.0, size_is ∙ old.stands.0.1, block_is ∙ old.stands.0.2), old.stands.1, kind);
       covered = subst (λ (x : Did). Covers (charges c.first c.entries + broken_in (Lent m x) + u) (beside (Lent m d) p now u)) (sym idle) old.covered;
     };
     charges = λ bare. refl;
+    enters = plain_same c.entries c.entries refl;
+    written = subst (λ (x : Did). IfSome (written_in (Lent m x)) (λ i. (None ≡ Some i) × (record c { out = o } ≡ c))) (sym idle) tt;
   }
 
   comes : (es : List Entry) (o : List Mark) (stored : List Bool) (d : Did) → ((w : Mark → ℕ) → sum_by w o + w m ≡ sum_by w c.out) → ((n : ℕ) → tally n es ≡ tally n c.entries) → times is_there es ≡ times is_there c.entries →
       charges c.first es ≡ charges c.first c.entries + broken_in (Lent m d) →
-      LoanStep c (beside (Lent m d) p now u) (record c { entries = es; out = o; stored = stored }) (beside (Open path size k) p now u)
-  comes es o stored d loses tallies theres charged = record {
+      EntersBy (written_in (Lent m d)) c (record c { entries = es; out = o; stored = stored }) → LoanStep c (beside (Lent m d) p now u) (record c { entries = es; out = o; stored = stored }) (beside (Open path size k) p now u)
+  comes es o stored d loses tallies theres charged entered = record {
     tokens = λ w. omega (arith, loses w);
     home = refl;
     tallies = tallies;
@@ -89,13 +122,15 @@ module _ (c : CoreView) (p now : ℕ × ℕ) (u : ℕ) (m : Mark) (path : List �
       covered = subst (λ (n : ℕ). Covers n (beside (Lent m d) p now u)) (omega (arith, charged)) old.covered;
     };
     charges = λ bare. absurd (cc);
+    enters = entered;
+    written = tt;
   }
 
   came : (o : List Mark) (d : Did) → ((w : Mark → ℕ) → sum_by w o + w m ≡ sum_by w c.out) →
       LoanStep c (beside (Lent m d) p now u) (record (with_did c d) { out = o }) (beside (Open path size k) p now u)
-  came o did.Nothing loses = comes c.entries o c.stored did.Nothing loses (λ n. refl) refl (omega arith)
-  came o (did.Wrote i) loses = comes (c.entries ++ Wrote i ∷ []) o _ (did.Wrote i) loses (λ n. tally_same n c.entries (Wrote i) refl) (times_none is_there c.entries (Wrote i) refl) (charges_more c.first c.entries (Wrote i))
-  came o did.Broke loses = comes (c.entries ++ Frozen ∷ []) o c.durable did.Broke loses (λ n. tally_same n c.entries Frozen refl) (times_none is_there c.entries Frozen refl) (charges_more c.first c.entries Frozen)
+  came o did.Nothing loses = comes c.entries o c.stored did.Nothing loses (λ n. refl) refl (omega arith) (plain_same c.entries c.entries refl)
+  came o (did.Wrote i) loses = comes (c.entries ++ Wrote i ∷ []) o _ (did.Wrote i) loses (λ n. tally_same n c.entries (Wrote i) refl) (times_none is_there c.entries (Wrote i) refl) (charges_more c.first c.entries (Wrote i)) (inr refl)
+  came o did.Broke loses = comes (c.entries ++ Frozen ∷ []) o c.durable did.Broke loses (λ n. tally_same n c.entries Frozen refl) (times_none is_there c.entries Frozen refl) (charges_more c.first c.entries Frozen) (plain_one c.entries (c.entries ++ Frozen ∷ []) Frozen refl refl)
 
 pub lend_step : {D I : Type 0} (c c2 : CoreView) (s : StoreView D I) (loan : LoanView D I) (faults : D → ℕ) (counts : I → ℕ) (p : ℕ × ℕ) (u : ℕ) → Lends c (Some s) loan c2 → IsLoan loan.mark loan.store →
     LoanStep c (beside (Open s.path s.size s.block_size) p (faults s.first, counts s.second) u) c2 (beside (Lent loan.mark loan.did) p (faults loan.store.first, counts loan.store.second) u)
@@ -103,7 +138,7 @@ lend_step {D = D} {I = I} c c2 s loan faults counts p u lends is =
     let same : s ≡ loan.store = let e = lends.store_is in cc in
     rw same
     (subst (λ (v : CoreView). LoanStep c (beside (Open loan.store.path loan.store.size loan.store.block_size) p (faults loan.store.first, counts loan.store.second) u) v (beside (Lent loan.mark loan.did) p (faults loan.store.first, counts loan.store.second) u)) (sym lends.rest)
-    (goes c p (faults loan.store.first, counts loan.store.second) u loan.mark loan.store.path loan.store.size loan.store.block_size is.path_is is.size_is is.block_size_is c2.out loan.did lends.gains lends.idle))
+    (goes c p (faults loan.store.first, counts loan.store.second) u loan.mark loan.store.path loan.store.size loan.store.block_size is.path_is is.size_is is.block_size_is c2.out loan.did lends.gains lends.idle (ap (λ (m : Mark). m.kind) lends.mine)))
 
 pub give_step : {D I : Type 0} (c c2 : CoreView) (s : StoreView D I) (loan : LoanView D I) (faults : D → ℕ) (counts : I → ℕ) (p : ℕ × ℕ) (u : ℕ) → Gives c loan c2 → IsLoan loan.mark loan.store → s ≡ loan.store →
     LoanStep c (beside (Lent loan.mark loan.did) p (faults loan.store.first, counts loan.store.second) u) c2 (beside (Open s.path s.size s.block_size) p (faults s.first, counts s.second) u)

@@ -1,6 +1,6 @@
 -- The steps of a client that open and close a file.
 use Rattle.std.proofs.Common.{◌≡◌, ℕ, ◌+◌, ◌*◌, ◌≤◌, List, [], ◌∷◌, ◌++◌, refl, sym, ap, ◌∙◌, subst, arith, Bool}
-use Rattle.std.specs.Prelude.{Ok, if◌then◌else◌}
+use Rattle.std.specs.Prelude.{Ok, None, if◌then◌else◌}
 use Rattle.pfc_world.specs.Counts.{RoseBy}
 use Rattle.pfc_log.specs.declared.entry.Entry.{Entry}
 use Rattle.pfc_log.specs.declared.entry.Entry.TheVariants as e
@@ -17,8 +17,10 @@ use Rattle.pfc_actor.specs.Books.{BookView, IsNext, open_weight}
 use Rattle.pfc_actor.specs.StageView.{StageView, Rest, Closing}
 use Rattle.pfc_actor.specs.StageView as st
 use Rattle.pfc_actor.specs.Stages.{shares, no_shares, stage_weight, owed, asking, failing}
-use Rattle.pfc_actor.specs.Steps.{Own, Step}
+use Rattle.pfc_actor.specs.Steps.{Own, Step, full_in}
 use Rattle.pfc_actor.proofs.Tallied.{made, quiet, told}
+use Rattle.pfc_actor.proofs.Growing.{plain_grows, plain_one, still_grows}
+use Rattle.pfc_actor.proofs.Giving.{fresh_attached, fresh_lost}
 use Rattle.pfc_actor.proofs.Steps.{shrinks_same}
 use Rattle.pfc_actor.proofs.Entering.{gained_one, no_room, step_on}
 
@@ -48,14 +50,17 @@ own_step b b2 l l2 st st2 c c2 own same = rw same (record {
         bypassed = let m = less c.block_size (shares c.instance st2).directs (shares c.instance st).directs s.directs in omega (arith, m, old.bypassed);
       };
   elsewhere = λ i other. own.elsewhere i;
+  grows = still_grows (full_in st) c c refl;
+  fresh = omega arith;
+  full = own.full;
   others = λ m other. refl;
 })
 
 -- the file is open
 pub opened_step : (b b2 : BookView) (l : LineView) (st : StageView) (c c2 : CoreView) (number n size : ℕ) (path : List ℕ) (stay : Mark) → ((w : Mark → ℕ) → stage_weight w st ≡ 0) → owed st ≡ 0 → failing st ≡ 0 → asking st ≡ 1 →
-    ((i : ℕ) → shares i st ≡ no_shares) → IsNext b (Ok (q.Open number path)) → n ≡ b.number → Attaches c n stay c2 → ((w : Mark → ℕ) → open_weight w b2.stays ≡ open_weight w b.stays + w stay) →
+    ((i : ℕ) → shares i st ≡ no_shares) → full_in st ≡ None → IsNext b (Ok (q.Open number path)) → n ≡ b.number → Attaches c n stay c2 → ((w : Mark → ℕ) → open_weight w b2.stays ≡ open_weight w b.stays + w stay) →
     b2.number ≡ b.number → b2.asked ≡ b.asked → b2.replies ≡ b.replies ++ r.Size size ∷ [] → Step b l st c b2 l Rest c2
-opened_step b b2 l st c c2 number n size path stay light unowed whole asks lone next mine attaches weighs num asked replies =
+opened_step b b2 l st c c2 number n size path stay light unowed whole asks lone none next mine attaches weighs num asked replies =
     let g : Tally = gain b.number (owners c.entries) (e.Opened b.number) in
     let enters : c2 ≡ entered c (e.Opened b.number) c2.out = attaches.enters ∙ ap (λ (m : ℕ). entered c (e.Opened m) c2.out) mine in
     let one : g.opened ≡ 1 = ap (λ (q : Bool). if q then 1 else 0) (eq_self b.number) in
@@ -67,6 +72,8 @@ opened_step b b2 l st c c2 number n size path stay light unowed whole asks lone 
     (made l l st Rest t (together t g) 1 0 (omega arith) (omega (arith, unowed, asks)) (omega arith)) (subst_faults t.faults l.faults old.faults) (omega (arith, whole)) old)
     (rw (lone c.instance) (no_room c.block_size g refl refl refl))
     (λ i other. rw (lone i) (shrinks_same no_shares))
+    (plain_grows (full_in st) c c2 none (plain_one c.entries c2.entries (e.Opened b.number) (ap (λ (v : CoreView). v.entries) enters) refl))
+    (fresh_attached c c2 n stay attaches) tt
 
 -- the file is closed
 pub closed_step : (b b2 : BookView) (l : LineView) (c c2 : CoreView) (number : ℕ) (stay : Mark) → IsNext b (Ok (q.Close number)) → stay.client ≡ b.number → Detaches c stay c2 →
@@ -83,6 +90,8 @@ closed_step b b2 l c c2 number stay next mine detaches weighs num asked replies 
     (made l l (Closing number) st.Closed t (together t g) 0 0 (omega arith) (omega arith) (omega arith)) (subst_faults t.faults l.faults old.faults) (omega arith) old)
     (no_room c.block_size g refl refl refl)
     (λ i other. shrinks_same no_shares)
+    (plain_one c.entries c2.entries (e.Closed b.number) (ap (λ (v : CoreView). v.entries) enters) refl)
+    (fresh_lost c c2 stay detaches.loses) tt
 
 -- the file is closed without a reply
 pub shut_step : (b b2 : BookView) (l : LineView) (c c2 : CoreView) (stay : Mark) → stay.client ≡ b.number → Detaches c stay c2 → ((w : Mark → ℕ) → open_weight w b2.stays + w stay ≡ open_weight w b.stays) →
@@ -97,3 +106,5 @@ shut_step b b2 l c c2 stay mine detaches weighs num asked replies =
     (subst_faults t.faults l.faults old.faults) (omega arith) old)
     (no_room c.block_size g refl refl refl)
     (λ i other. shrinks_same no_shares)
+    (plain_one c.entries c2.entries (e.Closed b.number) (ap (λ (v : CoreView). v.entries) enters) refl)
+    (fresh_lost c c2 stay detaches.loses) tt

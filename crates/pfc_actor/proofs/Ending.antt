@@ -25,6 +25,8 @@ use Rattle.pfc_actor.specs.Books.{BookView, IsNext, file_in}
 use Rattle.pfc_actor.specs.StageView.{Rest, Ending}
 use Rattle.pfc_actor.specs.Steps.{Step, Knows}
 use Rattle.pfc_actor.proofs.Entering.{Gained}
+use Rattle.pfc_actor.proofs.Growing.{quiet_plainly}
+use Rattle.pfc_actor.proofs.Calm.{quiet_ended}
 use Rattle.pfc_actor.proofs.Going.{ended_step, shares_here, none_more}
 use Rattle.pfc_actor.proofs.Holding.{of_file}
 
@@ -61,6 +63,7 @@ served_step told files b b2 l op c c2 number bytes s next answered knows here no
     (record { size = refl; opened = refl; served = refl; read = brought.sum; landed = refl; faults = refl; wants = refl; directs = refl })
     (omega (arith, whole))
     (rw (shares_here c.instance op here) (record { hit = omega (arith, brought.hit, size); missed = omega (arith, brought.missed, size2); bypassed = omega (arith, brought.bypassed, size3) }))
+    (quiet_plainly c.entries c2.entries (quiet_ended c c2 op (Some s) ended))
 
 -- the read ends without
 pub unserved_step : (b b2 : BookView) (l : LineView) (op : OpView) (c c2 : CoreView) (number : ℕ) (reply : Reply) → IsNext b (Ok (q.Read number op.piece)) →
@@ -73,6 +76,7 @@ unserved_step b b2 l op c c2 number reply next answered knows here none mine end
     (record { size = size; opened = refl; served = sym (ap {B = ℕ} (λ (q : Bool). if q then 1 else 0) bare); read = sym empty; landed = refl; faults = refl; wants = refl; directs = refl })
     (omega (arith, loses, few))
     (rw (shares_here c.instance op here) (record { hit = omega arith; missed = omega arith; bypassed = omega arith }))
+    (quiet_plainly c.entries c2.entries (quiet_ended c c2 op None ended))
 
 -- the bytes are the plain reply
 pub its_bytes : (kept : List (Option Mark)) (told : Bool) (files : Files) (number : ℕ) (op : OpView) (stay : Mark) (bytes : List ℕ) (s : Served) → place_at kept number ≡ Some stay → op.reading.path ≡ stay.path → op.reading.size ≡ stay.size →

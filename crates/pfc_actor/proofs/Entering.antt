@@ -8,11 +8,12 @@ use Rattle.pfc_log.proofs.Places.{eq_sym}
 use Rattle.pfc_log.proofs.Tallied.{tally_more, tally_same, together_assoc, nothing_more}
 use Rattle.pfc_core.specs.LineView.{LineView}
 use Rattle.pfc_core.specs.Marks.{Mark}
+use Rattle.pfc_core.specs.OpenJobs.{settled}
 use Rattle.pfc_core.specs.View.{CoreView}
 use Rattle.pfc_actor.specs.Books.{BookView}
 use Rattle.pfc_actor.specs.StageView.{StageView}
 use Rattle.pfc_actor.specs.Stages.{Shares, shares, no_shares, weight}
-use Rattle.pfc_actor.specs.Steps.{IsTallied, IsWithin, Shrinks, Step}
+use Rattle.pfc_actor.specs.Steps.{IsTallied, IsWithin, Shrinks, StaysFull, GrowsBy, Step, full_in}
 
 -- the client's tally has so much more, and no other tally has
 pub record Gained (n : ℕ) (es es2 : List Entry) (g : Tally) : Type 0 where
@@ -50,8 +51,8 @@ no_room k g hit missed bypassed = record { hit = omega (arith, hit); missed = om
 pub step_on : (b b2 : BookView) (l l2 : LineView) (st st2 : StageView) (c c2 : CoreView) (g : Tally) → b2.number ≡ b.number → l2.number ≡ l.number → b2.asked ≡ b.asked →
     c2 ≡ record c { entries = c2.entries; out = c2.out } → ((w : Mark → ℕ) → weight w b2 st2 + sum_by w c.out ≡ weight w b st + sum_by w c2.out) → Gained b.number c.entries c2.entries g →
     ((t : Tally) → IsTallied b l st t → IsTallied b2 l2 st2 (together t g)) → HasRoom (shares c.instance st) (shares c.instance st2) c.block_size g →
-    ((i : ℕ) → (i == c.instance) ≡ false → Shrinks (shares i st) (shares i st2)) → Step b l st c b2 l2 st2 c2
-step_on b b2 l l2 st st2 c c2 g number link asked home tokens gained tallied room elsewhere = record {
+    ((i : ℕ) → (i == c.instance) ≡ false → Shrinks (shares i st) (shares i st2)) → GrowsBy (full_in st) c c2 → sum_by (settled c2) c2.out ≤ sum_by (settled c2) c.out → StaysFull st st2 → Step b l st c b2 l2 st2 c2
+step_on b b2 l l2 st st2 c c2 g number link asked home tokens gained tallied room elsewhere grows fresh full = record {
   number = number;
   link = link;
   asked = asked;
@@ -60,5 +61,8 @@ step_on b b2 l l2 st st2 c c2 g number link asked home tokens gained tallied roo
   tallied = λ rest old. subst (IsTallied b2 l2 st2) (sym (together_assoc rest (tally b.number c.entries) g) ∙ ap (together rest) (sym gained.mine)) (tallied (together rest (tally b.number c.entries)) old);
   within = λ old. subst (IsWithin (shares c.instance st2) c.block_size) (sym gained.mine) (within_on (shares c.instance st) (shares c.instance st2) c.block_size (tally b.number c.entries) g room old);
   elsewhere = elsewhere;
+  grows = grows;
+  fresh = fresh;
+  full = full;
   others = gained.others;
 }

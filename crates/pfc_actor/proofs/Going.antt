@@ -1,11 +1,12 @@
 -- The steps of a read.
-use Rattle.std.proofs.Common.{◌≡◌, ℕ, ◌+◌, ◌*◌, ◌≤◌, ◌<◌, List, [], ◌∷◌, ◌++◌, refl, sym, ap, ◌∙◌, subst, arith, Bool, true, false, inl, inr}
+use Rattle.std.proofs.Common.{◌≡◌, ℕ, ◌+◌, ◌*◌, ◌≤◌, ◌<◌, List, [], ◌∷◌, ◌++◌, length, refl, sym, ap, ◌∙◌, subst, arith, Bool, true, false, inl, inr}
 use Rattle.std.specs.Prelude.{◌⊎◌, Option, Some, Ok, ◌==◌, sum_by, if◌then◌else◌, slice_get}
 use Rattle.std.proofs.lemmas.List.Sums.{sum_by_push}
 use Rattle.pfc_base.specs.declared.block.Part.{Part}
 use Rattle.pfc_base.specs.declared.block.Piece.{Piece}
 use Rattle.pfc_world.specs.Counts.{Rose, RoseBy, add_count, last_count}
 use Rattle.pfc_log.specs.declared.entry.DropCause.{DropCause}
+use Rattle.pfc_log.specs.declared.entry.DropCause.TheVariants as cause
 use Rattle.pfc_log.specs.declared.entry.Entry.{Entry}
 use Rattle.pfc_log.specs.declared.entry.Entry.TheVariants as e
 use Rattle.pfc_log.specs.declared.entry.Fell.{Fell}
@@ -27,19 +28,24 @@ use Rattle.pfc_core.specs.Line as line
 use Rattle.pfc_core.specs.LineView.{LineView}
 use Rattle.pfc_core.specs.Disks.{EndsDisk, GoesBroken}
 use Rattle.pfc_core.specs.Looks.{LeavesFor}
-use Rattle.pfc_core.specs.Marks.{Mark, sees}
+use Rattle.pfc_core.specs.Marks.{Kind, Mark, JobKind, kind_code, sees}
 use Rattle.pfc_core.specs.View.{CoreView}
 use Rattle.pfc_read.specs.Fills.{Owes}
 use Rattle.pfc_read.specs.OpView.{OpView, held, first_met, Nothing}
 use Rattle.pfc_read.specs.Plans.{Plans, with_asked}
 use Rattle.pfc_read.specs.Steps.{GivesTicket, GivesLeave, GivesPin, GivesDisk, GivesEnd}
+use Rattle.pfc_log.specs.Waiting.{GrowsPlainly}
+use Rattle.pfc_core.specs.OpenJobs.{a_job, settled}
 use Rattle.pfc_writer.specs.Queue.{QueueView}
 use Rattle.pfc_actor.specs.Books.{BookView, IsNext, open_weight}
 use Rattle.pfc_actor.specs.StageView.{StageView, Rest, Planning, Reading, Landed, Full, Loading, Borrowing, Loaded, Refused, Broken, Running, Directing, Looking, Ending}
 use Rattle.pfc_actor.specs.Stages.{Shares, shares, no_shares, op_shares, weight, stage_weight, owed, asking, failing}
-use Rattle.pfc_actor.specs.Steps.{Shrinks, Own, Step, Puts, Knows}
+use Rattle.pfc_actor.specs.Steps.{Shrinks, StaysFull, GrowsBy, Own, Step, Puts, Knows, full_in}
 use Rattle.pfc_actor.proofs.Tallied.{GoesOn, Answers, counted, made, quiet, told}
-use Rattle.pfc_actor.proofs.Steps.{shrinks_same}
+use Rattle.pfc_actor.proofs.Growing.{plain_one, plain_same, quiet_plainly}
+use Rattle.pfc_actor.proofs.Calm.{quiet_plans}
+use Rattle.pfc_actor.proofs.Giving.{fresh_lost, fresh_plans}
+use Rattle.pfc_actor.proofs.Steps.{full_on, shrinks_same}
 use Rattle.pfc_actor.proofs.Entering.{Gained, gained_one, gained_same, HasRoom, step_on}
 use Rattle.pfc_actor.proofs.Cores.{still_home, own_step}
 
@@ -92,13 +98,13 @@ rise t g before after was climbs rose = grind (arith, was, climbs, rose)
 -- a read goes on on its core
 read_step : (b : BookView) (l l2 : LineView) (st st2 : StageView) (op op2 : OpView) (c c2 : CoreView) (g : Tally) → IsReading st op → IsReading st2 op2 → Continues op op2 g → IsSilent g →
     op.reading.instance ≡ c.instance → l2.number ≡ l.number → c2 ≡ record c { entries = c2.entries; out = c2.out } → ((w : Mark → ℕ) → weight w b st2 + sum_by w c.out ≡ weight w b st + sum_by w c2.out) →
-    Gained b.number c.entries c2.entries g → ((t : Tally) → GoesOn l l2 st st2 t (together t g) 0) → l.faults ≤ l2.faults → RoseBy l.faults g.faults l2.faults → Step b l st c b l2 st2 c2
-read_step b l l2 st st2 op op2 c c2 g was is on silent here number home tokens gained goes climbs rose =
+    Gained b.number c.entries c2.entries g → ((t : Tally) → GoesOn l l2 st st2 t (together t g) 0) → l.faults ≤ l2.faults → RoseBy l.faults g.faults l2.faults → GrowsBy (full_in st) c c2 → sum_by (settled c2) c2.out ≤ sum_by (settled c2) c.out → StaysFull st st2 → Step b l st c b l2 st2 c2
+read_step b l l2 st st2 op op2 c c2 g was is on silent here number home tokens gained goes climbs rose grows fresh full =
     step_on b b l l2 st st2 c c2 g refl number refl home tokens gained
     (λ t old. quiet b b l l2 st st2 t (together t g) refl refl (omega (arith, silent.opened)) (omega (arith, silent.served)) (omega (arith, silent.hit, silent.missed, silent.bypassed)) (goes t)
     (rise t.faults g.faults l.faults l2.faults old.faults climbs rose) (omega (arith, was.fails, is.fails, on.failed)) old)
     (rw (was.shares_are c.instance, is.shares_are c.instance) (op_room c.instance c.block_size op op2 g on silent here))
-    (λ i other. rw (was.shares_are i, is.shares_are i) (op_elsewhere i c op op2 on.reading here other))
+    (λ i other. rw (was.shares_are i, is.shares_are i) (op_elsewhere i c op op2 on.reading here other)) grows fresh full
 
 same_shares : (i : ℕ) (op op2 : OpView) → Continues op op2 nothing → Shrinks (op_shares i op) (op_shares i op2)
 same_shares i op op2 on =
@@ -110,14 +116,15 @@ shrinks_on a b c first later = record { hits = omega (arith, first.hits, later.h
 
 -- a read goes on by itself
 pub op_own : (b : BookView) (l : LineView) (st st2 : StageView) (op op2 : OpView) → IsReading st op → IsReading st2 op2 → Continues op op2 nothing → op2.failed ≡ op.failed → owed st2 ≡ owed st →
-    ((w : Mark → ℕ) → stage_weight w st2 ≡ stage_weight w st) → Own b l st b l st2
-op_own b l st st2 op op2 was is on failed owes tokens = record {
+    ((w : Mark → ℕ) → stage_weight w st2 ≡ stage_weight w st) → StaysFull st st2 → Own b l st b l st2
+op_own b l st st2 op op2 was is on failed owes tokens full = record {
   number = refl;
   link = refl;
   asked = refl;
   tokens = λ w. let t = tokens w in omega (arith, t);
   tallied = λ t old. quiet b b l l st st2 t t refl refl refl refl refl (made l l st st2 t t 0 0 (omega arith) (omega (arith, owes, was.asks, is.asks)) refl) old.faults (omega (arith, was.fails, is.fails, failed)) old;
   elsewhere = λ i. rw (was.shares_are i, is.shares_are i) (same_shares i op op2 on);
+  full = full;
 }
 
 pub own_own : (b : BookView) (l l2 : LineView) (st st2 st3 : StageView) → Own b l st b l st2 → Own b l st2 b l2 st3 → Own b l st b l2 st3
@@ -128,11 +135,12 @@ own_own b l l2 st st2 st3 first later = record {
   tokens = λ w. later.tokens w ∙ first.tokens w;
   tallied = λ t old. later.tallied t (first.tallied t old);
   elsewhere = λ i. shrinks_on (shares i st) (shares i st2) (shares i st3) (first.elsewhere i) (later.elsewhere i);
+  full = full_on (full_in st) (full_in st2) (full_in st3) first.full later.full;
 }
 
 -- a step of its own, and then one on a core
-pub own_then_step : (b b2 : BookView) (l l2 : LineView) (st st2 st3 : StageView) (c c2 : CoreView) → Own b l st b l st2 → Step b l st2 c b2 l2 st3 c2 → Step b l st c b2 l2 st3 c2
-own_then_step b b2 l l2 st st2 st3 c c2 first later = record {
+pub own_then_step : (b b2 : BookView) (l l2 : LineView) (st st2 st3 : StageView) (c c2 : CoreView) → full_in st ≡ full_in st2 → Own b l st b l st2 → Step b l st2 c b2 l2 st3 c2 → Step b l st c b2 l2 st3 c2
+own_then_step b b2 l l2 st st2 st3 c c2 found first later = record {
   number = later.number;
   link = later.link;
   asked = later.asked;
@@ -141,6 +149,9 @@ own_then_step b b2 l l2 st st2 st3 c c2 first later = record {
   tallied = λ rest old. later.tallied rest (first.tallied (together rest (tally b.number c.entries)) old);
   within = λ old. later.within ((own_step b b l l st st2 c c first refl).within old);
   elsewhere = λ i other. shrinks_on (shares i st) (shares i st2) (shares i st3) (first.elsewhere i) (later.elsewhere i other);
+  grows = rw found later.grows;
+  fresh = later.fresh;
+  full = full_on (full_in st) (full_in st2) (full_in st3) first.full later.full;
   others = later.others;
 }
 
@@ -165,8 +176,8 @@ called calls calls2 (inl e) low = (omega (arith, e, low), omega (arith, e), omeg
 called calls calls2 (inr e) low = let n = counted calls 1 calls2 e low in (omega (arith, n, low), omega (arith, n), omega (arith, n))
 
 pub landed_step : (b : BookView) (l l2 : LineView) (op op2 : OpView) (ticket back job : Mark) (twin : BlockView) (c c2 : CoreView) → Brings l ticket back twin l2 → Lands c back job c2 → op2 ≡ record op { given = Nothing } →
-    op.reading.instance ≡ c.instance → ticket.client ≡ b.number → Step b l (Running op ticket) c b l2 (Landed op2 job) c2
-landed_step b l l2 op op2 ticket back job twin c c2 brings lands same here mine =
+    op.reading.instance ≡ c.instance → ticket.client ≡ b.number → settled c2 job ≡ 0 → Step b l (Running op ticket) c b l2 (Landed op2 job) c2
+landed_step b l l2 op op2 ticket back job twin c c2 brings lands same here mine unsettled =
     let g : Tally = gain b.number (owners c.entries) (e.Landed back.number) in
     let whose : back.client ≡ b.number = ap (λ (m : Mark). m.client) brings.back_is ∙ mine in
     let one : g.landed ≡ 1 = ended_one b.number (owners c.entries) back.number back.client lands.owner_is whose in
@@ -177,6 +188,8 @@ landed_step b l l2 op op2 ticket back job twin c c2 brings lands same here mine 
     (λ w. let s = lands.swaps w in let k = ap w brings.back_is in let h = ap (held w) same in omega (arith, s, k, h))
     (gained_one b.number c.entries c2.entries (e.Landed back.number) (ap (λ (v : CoreView). v.entries) lands.enters) (lands.owner_is ∙ ap Some whose))
     (λ t. made l l2 (Running op ticket) (Landed op2 job) t (together t g) 0 1 brings.calls (omega (arith, one, leaves)) (omega arith)) brings.faults (inl (omega (arith, brings.faults)))
+    (plain_one c.entries c2.entries (e.Landed back.number) (ap (λ (v : CoreView). v.entries) lands.enters) refl)
+    (let s = lands.swaps (settled c2) in omega (arith, s, unsettled)) tt
 
 pub failed_step : (b : BookView) (l l2 : LineView) (op op2 : OpView) (ticket back : Mark) (c c2 : CoreView) → line.Fails l ticket back l2 → Fails c back fell.Fault c2 →
     op2 ≡ record op { failed = op.failed + 1; met = first_met op.met fell.Fault; given = Nothing } → op.reading.instance ≡ c.instance → ticket.client ≡ b.number → Step b l (Running op ticket) c b l2 (Reading op2) c2
@@ -191,6 +204,8 @@ failed_step b l l2 op op2 ticket back c c2 fault fails same here mine =
     (λ w. let s = fails.loses w in let k = ap w fault.back_is in let h = ap (held w) same in omega (arith, s, k, h))
     (gained_one b.number c.entries c2.entries (e.Failed back.number fell.Fault) (ap (λ (v : CoreView). v.entries) fails.enters) (fails.owner_is ∙ ap Some whose))
     (λ t. made l l2 (Running op ticket) (Reading op2) t (together t g) 0 1 fault.calls (omega (arith, one, leaves)) (omega arith)) fault.faults (rose_one l.faults g.faults l2.faults one fault.rose)
+    (plain_one c.entries c2.entries (e.Failed back.number fell.Fault) (ap (λ (v : CoreView). v.entries) fails.enters) refl)
+    (fresh_lost c c2 back fails.loses) tt
 
 pub wanted_step : (b : BookView) (l l2 : LineView) (op op2 : OpView) (ticket back : Mark) (c c2 : CoreView) → Wants l ticket back l2 → Fails c back fell.Memory c2 →
     op2 ≡ record op { failed = op.failed + 1; met = first_met op.met fell.Memory; given = Nothing } → op.reading.instance ≡ c.instance → ticket.client ≡ b.number → Step b l (Running op ticket) c b l2 (Reading op2) c2
@@ -209,6 +224,8 @@ wanted_step b l l2 op op2 ticket back c c2 wants fails same here mine =
       least = λ low. let n = called l.calls l2.calls wants.calls low in omega (arith, n.1, leaves);
       most = λ low. let n = called l.calls l2.calls wants.calls low in omega (arith, n.2, leaves, one);
     }) wants.faults (inl (omega (arith, wants.faults)))
+    (plain_one c.entries c2.entries (e.Failed back.number fell.Memory) (ap (λ (v : CoreView). v.entries) fails.enters) refl)
+    (fresh_lost c c2 back fails.loses) tt
 
 -- ---- a look
 
@@ -226,6 +243,8 @@ lost_step b l op op2 pin part c c2 leaves owes here mine =
     (λ w. let s = leaves.loses w in let h = ap (held w) owes.rest in omega (arith, s, h))
     (gained_one b.number c.entries c2.entries x (ap (λ (v : CoreView). v.entries) leaves.enters) (ap Some mine))
     (λ t. made l l (Looking op pin part) (Reading op2) t (together t g) 0 0 (omega arith) (omega (arith, one, more)) (omega arith)) (omega arith) (inl (omega arith))
+    (plain_one c.entries c2.entries x (ap (λ (v : CoreView). v.entries) leaves.enters) refl)
+    (fresh_lost c c2 pin leaves.loses) tt
 
 -- the pin goes back, and the core is as it was
 pub looked_step : (b : BookView) (l : LineView) (op op2 : OpView) (pin : Mark) (part : Part) (looks : ℕ) (met : Option Fell) (c c2 : CoreView) → c2 ≡ c → ((w : Mark → ℕ) → sum_by w op2.pins ≡ sum_by w op.pins + w pin) →
@@ -235,7 +254,7 @@ looked_step b l op op2 pin part looks met c c2 same gains rest =
     (op_own b l (Looking op pin part) (Reading op2) op op2 (record { asks = refl; fails = refl; shares_are = λ i. refl }) (record { asks = refl; fails = refl; shares_are = λ i. refl })
     (record { reading = ap (λ (v : OpView). v.reading) rest; hits = ap (λ (v : OpView). v.hits) rest; waits = ap (λ (v : OpView). v.waits) rest; directs = let d = ap (λ (v : OpView). v.directs) rest in omega (arith, d); failed = let d = ap (λ (v : OpView). v.failed) rest in omega (arith, d) })
     (ap (λ (v : OpView). v.failed) rest) (ap (λ (v : OpView). v.leaves) rest)
-    (λ w. let n = gains w in let h = ap (held w) rest in omega (arith, n, h)))
+    (λ w. let n = gains w in let h = ap (held w) rest in omega (arith, n, h)) tt)
     same
 
 -- ---- a part on disk
@@ -254,11 +273,13 @@ broken_step b l op op2 disk part c c2 leaves owes here mine =
     (λ w. let s = leaves.loses w in let h = ap (held w) owes.rest in omega (arith, s, h))
     (gained_one b.number c.entries c2.entries x (ap (λ (v : CoreView). v.entries) leaves.enters) (ap Some mine))
     (λ t. made l l (Broken op disk part) (Reading op2) t (together t g) 0 0 (omega arith) (omega (arith, one, more)) (omega arith)) (omega arith) (inl (omega arith))
+    (plain_one c.entries c2.entries x (ap (λ (v : CoreView). v.entries) leaves.enters) refl)
+    (fresh_lost c c2 disk leaves.loses) tt
 
 -- the part couldn't be read
 pub refused_own : (b : BookView) (l : LineView) (op op2 : OpView) (disk : Mark) (part : Part) → op2 ≡ op → Own b l (Borrowing op disk part) b l (Refused op2 disk part)
 refused_own b l op op2 disk part same = rw same (op_own b l (Borrowing op disk part) (Refused op disk part) op op (record { asks = refl; fails = refl; shares_are = λ i. refl }) (record { asks = refl; fails = refl; shares_are = λ i. refl })
-    (record { reading = refl; hits = refl; waits = refl; directs = omega arith; failed = omega arith }) refl refl (λ w. refl))
+    (record { reading = refl; hits = refl; waits = refl; directs = omega arith; failed = omega arith }) refl refl (λ w. refl) tt)
 
 -- the part was read into the reply
 pub loaded_own : (b : BookView) (l : LineView) (op op2 : OpView) (disk : Mark) (part : Part) → op2 ≡ record op { given = Nothing } → Own b l (Borrowing op disk part) b l (Loaded op2 disk)
@@ -266,7 +287,7 @@ loaded_own b l op op2 disk part same =
     op_own b l (Borrowing op disk part) (Loaded op2 disk) op op2 (record { asks = refl; fails = refl; shares_are = λ i. refl }) (record { asks = refl; fails = refl; shares_are = λ i. refl })
     (record { reading = ap (λ (v : OpView). v.reading) same; hits = ap (λ (v : OpView). v.hits) same; waits = ap (λ (v : OpView). v.waits) same; directs = let d = ap (λ (v : OpView). v.directs) same in omega (arith, d); failed = let d = ap (λ (v : OpView). v.failed) same in omega (arith, d) })
     (ap (λ (v : OpView). v.failed) same) (ap (λ (v : OpView). v.leaves) same)
-    (λ w. let h = ap (held w) same in omega (arith, h))
+    (λ w. let h = ap (held w) same in omega (arith, h)) tt
 
 -- the right to read goes back
 pub returned_step : (b : BookView) (l : LineView) (op : OpView) (disk : Mark) (c c2 : CoreView) → EndsDisk c disk c2 → op.reading.instance ≡ c.instance → Step b l (Loaded op disk) c b l (Reading op) c2
@@ -279,6 +300,8 @@ returned_step b l op disk c c2 ends here =
     (λ w. let s = ends.loses w in omega (arith, s))
     (gained_same b.number c.entries c2.entries same)
     (λ t. made l l (Loaded op disk) (Reading op) t (together t nothing) 0 0 (omega arith) (omega arith) (omega arith)) (omega arith) (inl (omega arith))
+    (plain_same c.entries c2.entries same)
+    (fresh_lost c c2 disk ends.loses) tt
 
 -- ---- the next action
 
@@ -287,35 +310,35 @@ run_next b l op op2 ticket gives =
     op_own b l (Reading op) (Running op2 ticket) op op2 (record { asks = refl; fails = refl; shares_are = λ i. refl }) (record { asks = refl; fails = refl; shares_are = λ i. refl })
     (record { reading = ap (λ (v : OpView). v.reading) gives.rest; hits = ap (λ (v : OpView). v.hits) gives.rest; waits = ap (λ (v : OpView). v.waits) gives.rest; directs = let d = ap (λ (v : OpView). v.directs) gives.rest in omega (arith, d); failed = let d = ap (λ (v : OpView). v.failed) gives.rest in omega (arith, d) })
     (ap (λ (v : OpView). v.failed) gives.rest) (ap (λ (v : OpView). v.leaves) gives.rest)
-    (λ w. let n = gives.loses w in let h = ap (held w) gives.rest in omega (arith, n, h))
+    (λ w. let n = gives.loses w in let h = ap (held w) gives.rest in omega (arith, n, h)) tt
 
 pub direct_next : (b : BookView) (l : LineView) (op op2 : OpView) (leave : LeaveView) → GivesLeave op leave op2 → Own b l (Reading op) b l (Directing op2 leave)
 direct_next b l op op2 leave gives =
     op_own b l (Reading op) (Directing op2 leave) op op2 (record { asks = refl; fails = refl; shares_are = λ i. refl }) (record { asks = refl; fails = refl; shares_are = λ i. refl })
     (record { reading = ap (λ (v : OpView). v.reading) gives.rest; hits = ap (λ (v : OpView). v.hits) gives.rest; waits = ap (λ (v : OpView). v.waits) gives.rest; directs = let d = ap (λ (v : OpView). v.directs) gives.rest in omega (arith, d); failed = let d = ap (λ (v : OpView). v.failed) gives.rest in omega (arith, d) })
     (ap (λ (v : OpView). v.failed) gives.rest) (sym gives.one)
-    (λ w. let h = ap (held w) gives.rest in omega (arith, h))
+    (λ w. let h = ap (held w) gives.rest in omega (arith, h)) tt
 
 pub look_next : (b : BookView) (l : LineView) (op op2 : OpView) (pin : Mark) (part : Part) → GivesPin op pin part op2 → Own b l (Reading op) b l (Looking op2 pin part)
 look_next b l op op2 pin part gives =
     op_own b l (Reading op) (Looking op2 pin part) op op2 (record { asks = refl; fails = refl; shares_are = λ i. refl }) (record { asks = refl; fails = refl; shares_are = λ i. refl })
     (record { reading = ap (λ (v : OpView). v.reading) gives.rest; hits = ap (λ (v : OpView). v.hits) gives.rest; waits = ap (λ (v : OpView). v.waits) gives.rest; directs = let d = ap (λ (v : OpView). v.directs) gives.rest in omega (arith, d); failed = let d = ap (λ (v : OpView). v.failed) gives.rest in omega (arith, d) })
     (ap (λ (v : OpView). v.failed) gives.rest) (ap (λ (v : OpView). v.leaves) gives.rest)
-    (λ w. let n = gives.loses w in let h = ap (held w) gives.rest in omega (arith, n, h))
+    (λ w. let n = gives.loses w in let h = ap (held w) gives.rest in omega (arith, n, h)) tt
 
 pub load_next : (b : BookView) (l : LineView) (op op2 : OpView) (disk : Mark) (part : Part) → GivesDisk op disk part op2 → Own b l (Reading op) b l (Loading op2 disk part)
 load_next b l op op2 disk part gives =
     op_own b l (Reading op) (Loading op2 disk part) op op2 (record { asks = refl; fails = refl; shares_are = λ i. refl }) (record { asks = refl; fails = refl; shares_are = λ i. refl })
     (record { reading = ap (λ (v : OpView). v.reading) gives.rest; hits = ap (λ (v : OpView). v.hits) gives.rest; waits = ap (λ (v : OpView). v.waits) gives.rest; directs = let d = ap (λ (v : OpView). v.directs) gives.rest in omega (arith, d); failed = let d = ap (λ (v : OpView). v.failed) gives.rest in omega (arith, d) })
     (ap (λ (v : OpView). v.failed) gives.rest) (ap (λ (v : OpView). v.leaves) gives.rest)
-    (λ w. let n = gives.loses w in let h = ap (held w) gives.rest in omega (arith, n, h))
+    (λ w. let n = gives.loses w in let h = ap (held w) gives.rest in omega (arith, n, h)) tt
 
 pub end_next : (b : BookView) (l : LineView) (op op2 : OpView) → GivesEnd op op2 → Own b l (Reading op) b l (Ending op2)
 end_next b l op op2 gives =
     op_own b l (Reading op) (Ending op2) op op2 (record { asks = refl; fails = refl; shares_are = λ i. refl }) (record { asks = refl; fails = refl; shares_are = λ i. refl })
     (record { reading = ap (λ (v : OpView). v.reading) gives.rest; hits = ap (λ (v : OpView). v.hits) gives.rest; waits = ap (λ (v : OpView). v.waits) gives.rest; directs = let d = ap (λ (v : OpView). v.directs) gives.rest in omega (arith, d); failed = let d = ap (λ (v : OpView). v.failed) gives.rest in omega (arith, d) })
     (ap (λ (v : OpView). v.failed) gives.rest) (ap (λ (v : OpView). v.leaves) gives.rest)
-    (λ w. let h = ap (held w) gives.rest in omega (arith, h))
+    (λ w. let h = ap (held w) gives.rest in omega (arith, h)) tt
 
 -- ---- a plan
 
@@ -343,6 +366,8 @@ planned_step b l number n piece op c c2 plans mine =
       bypassed = omega arith;
     }))
     (λ i other. rw (shares_there i op (ap (λ (k : ℕ). k == i) plans.begins.reads.instance_is ∙ eq_sym i c.instance other)) (shrinks_same no_shares))
+    (quiet_plainly c.entries c2.entries (quiet_plans c c2 n piece op plans))
+    (fresh_plans c c2 n piece op plans) tt
 
 -- ---- an end
 
@@ -367,8 +392,8 @@ answers_end reply t g with = record {
 -- the read is answered
 pub ended_step : (b b2 : BookView) (l : LineView) (op : OpView) (c c2 : CoreView) (g : Tally) (number : ℕ) (reply : Reply) → IsNext b (Ok (q.Read number op.piece)) → b2 ≡ record b { replies = b.replies ++ reply ∷ [] } →
     op.reading.instance ≡ c.instance → op.leaves ≡ 0 → c2 ≡ record c { entries = c2.entries; out = c2.out } → ((w : Mark → ℕ) → sum_by w c2.out + held w op ≡ sum_by w c.out) → Gained b.number c.entries c2.entries g →
-    EndsWith reply g → op.failed ≤ lost_at (Ok (q.Read number op.piece)) reply → HasRoom (op_shares c.instance op) no_shares c.block_size g → Step b l (Ending op) c b2 l Rest c2
-ended_step b b2 l op c c2 g number reply next answered here none home spends gained with fails room =
+    EndsWith reply g → op.failed ≤ lost_at (Ok (q.Read number op.piece)) reply → HasRoom (op_shares c.instance op) no_shares c.block_size g → GrowsPlainly c.entries c2.entries → Step b l (Ending op) c b2 l Rest c2
+ended_step b b2 l op c c2 g number reply next answered here none home spends gained with fails room grows =
     step_on b b2 l l (Ending op) Rest c c2 g (ap (λ (v : BookView). v.number) answered) refl (ap (λ (v : BookView). v.asked) answered) home
     (λ w. let s = spends w in let o = ap (λ (v : BookView). open_weight w v.stays) answered in omega (arith, s, o))
     gained
@@ -377,6 +402,8 @@ ended_step b b2 l op c c2 g number reply next answered here none home spends gai
     (rise t.faults g.faults l.faults l.faults old.faults (omega arith) (inl (omega (arith, with.faults)))) (omega (arith, with.faults, with.wants, fails)) old)
     room
     (λ i other. rw (shares_there i op (ap (λ (k : ℕ). k == i) here ∙ eq_sym i c.instance other)) (shrinks_same no_shares))
+    grows
+    (let s = spends (settled c2) in omega (arith, s)) tt
 
 -- ---- a block that is dropped
 
@@ -388,22 +415,32 @@ dropped_or_left m i why es es2 true is =
     ap (tally m) (is ∙ two_entries es (e.Dropped i why) (e.Left i)) ∙ tally_same m (es ++ e.Dropped i why ∷ []) (e.Left i) refl ∙ tally_same m es (e.Dropped i why) refl
 dropped_or_left m i why es es2 false is = ap (tally m) is ∙ tally_same m es (e.Dropped i why) refl
 
-pub dropped_step : (b : BookView) (l : LineView) (op : OpView) (job : Mark) (why : DropCause) (c c2 : CoreView) → Drops c job why c2 → op.reading.instance ≡ c.instance → Step b l (Full op job) c b l (Reading op) c2
-dropped_step b l op job why c c2 drops here =
-    let same = λ (m : ℕ). dropped_or_left m job.block why c.entries c2.entries (0 == pins_on job.block job.flight c.out) (ap (λ (v : CoreView). v.entries) drops.enters) in
-    read_step b l l (Full op job) (Reading op) op op c c2 nothing (record { asks = refl; fails = refl; shares_are = λ i. refl }) (record { asks = refl; fails = refl; shares_are = λ i. refl })
+pub dropped_step : (b : BookView) (l : LineView) (op : OpView) (job : Mark) (capacity : ℕ) (c c2 : CoreView) → Drops c job (cause.Full capacity) c2 → op.reading.instance ≡ c.instance → Step b l (Full op job capacity) c b l (Reading op) c2
+dropped_step b l op job capacity c c2 drops here =
+    let same = λ (m : ℕ). dropped_or_left m job.block (cause.Full capacity) c.entries c2.entries (0 == pins_on job.block job.flight c.out) (ap (λ (v : CoreView). v.entries) drops.enters) in
+    read_step b l l (Full op job capacity) (Reading op) op op c c2 nothing (record { asks = refl; fails = refl; shares_are = λ i. refl }) (record { asks = refl; fails = refl; shares_are = λ i. refl })
     (record { reading = refl; hits = refl; waits = refl; directs = omega arith; failed = omega arith })
     (record { opened = refl; served = refl; hit = refl; missed = refl; bypassed = refl }) here refl
     (subst (λ (v : CoreView). v ≡ record c { entries = v.entries; out = v.out }) (sym drops.enters) refl)
     (λ w. let s = drops.loses w in omega (arith, s))
     (record { mine = same b.number ∙ sym (nothing_more (tally b.number c.entries)); others = λ m other. same m })
-    (λ t. made l l (Full op job) (Reading op) t (together t nothing) 0 0 (omega arith) (omega arith) (omega arith)) (omega arith) (inl (omega arith))
+    (λ t. made l l (Full op job capacity) (Reading op) t (together t nothing) 0 0 (omega arith) (omega arith) (omega arith)) (omega arith) (inl (omega arith))
+    (inr drops)
+    (fresh_lost c c2 job drops.loses) tt
 
 -- ---- a block that is put to the queue
 
+-- each job in the queue is one
+length_push : (jobs : List Mark) (job : Mark) → length (jobs ++ job ∷ []) ≡ length jobs + 1
+length_push [] job = refl
+length_push (x ∷ jobs) job = omega (arith, length_push jobs job)
+
+one_job : (job : Mark) → job.kind ≡ JobKind → a_job job ≡ 1
+one_job job is = ap {B = ℕ} (λ (k : Kind). if kind_code k == kind_code JobKind then 1 else 0) is
+
 -- the queue had no room
-pub full_puts : (b : BookView) (l : LineView) (op : OpView) (job : Mark) (q q2 : QueueView) → q2 ≡ q → Puts b l (Landed op job) q b l (Full op job) q2
-full_puts b l op job q q2 same = rw same (record {
+pub full_puts : (b : BookView) (l : LineView) (op : OpView) (job : Mark) (q q2 : QueueView) → q2 ≡ q → job.kind ≡ JobKind → q.capacity ≤ length q.jobs → Puts b l (Landed op job) q b l (Full op job q2.capacity) q2
+full_puts b l op job q q2 same is many = rw same (record {
   number = refl;
   link = refl;
   asked = refl;
@@ -411,11 +448,14 @@ full_puts b l op job q q2 same = rw same (record {
   capacity = refl;
   tallied = λ t old. record { opened = old.opened; served = old.served; read = old.read; least = old.least; most = old.most; faults = old.faults; failed = old.failed };
   elsewhere = λ i. shrinks_same (op_shares i op);
+  jobs = λ old. old;
+  more = omega arith;
+  full = inr (record { job = is; capacity_is = refl; many = many; same = refl });
 })
 
 -- the queue took the job
-pub queued_puts : (b : BookView) (l : LineView) (op : OpView) (job : Mark) (q q2 : QueueView) → q2 ≡ record q { jobs = q.jobs ++ job ∷ [] } → Puts b l (Landed op job) q b l (Reading op) q2
-queued_puts b l op job q q2 same = rw same (record {
+pub queued_puts : (b : BookView) (l : LineView) (op : OpView) (job : Mark) (q q2 : QueueView) → q2 ≡ record q { jobs = q.jobs ++ job ∷ [] } → job.kind ≡ JobKind → Puts b l (Landed op job) q b l (Reading op) q2
+queued_puts b l op job q q2 same is = rw same (record {
   number = refl;
   link = refl;
   asked = refl;
@@ -423,4 +463,7 @@ queued_puts b l op job q q2 same = rw same (record {
   capacity = refl;
   tallied = λ t old. record { opened = old.opened; served = old.served; read = old.read; least = old.least; most = old.most; faults = old.faults; failed = old.failed };
   elsewhere = λ i. shrinks_same (op_shares i op);
+  jobs = λ old. let s = sum_by_push a_job q.jobs job in let n = length_push q.jobs job in let k = one_job job is in omega (arith, s, n, k, old);
+  more = let n = length_push q.jobs job in omega (arith, n);
+  full = tt;
 })

@@ -1,6 +1,6 @@
 -- The steps of a client.
-use Rattle.std.proofs.Common.{◌≡◌, ℕ, ◌+◌, ◌≤◌, [], ◌∷◌, ◌++◌, refl, ap, arith, Bool, false}
-use Rattle.std.specs.Prelude.{Result, if◌then◌else◌}
+use Rattle.std.proofs.Common.{◌≡◌, ℕ, ◌+◌, ◌≤◌, [], ◌∷◌, ◌++◌, refl, ap, ◌∙◌, arith, Bool, false}
+use Rattle.std.specs.Prelude.{Result, Option, Some, None, IfSome, if◌then◌else◌}
 use Rattle.pfc_world.specs.Counts.{RoseBy, add_count}
 use Rattle.pfc_log.specs.Tallies.{Tally}
 use Rattle.pfc_client.specs.declared.request.Request.{Request}
@@ -26,6 +26,16 @@ answers_none t reply size bare none = record {
   read = omega (arith, none);
 }
 
+-- only one that was there stays
+pub full_same : {A : Type 0} (x : Option A) → IfSome x (λ full. x ≡ Some full)
+full_same None = tt
+full_same (Some full) = refl
+
+pub full_on : {A : Type 0} (x y z : Option A) → IfSome y (λ full. x ≡ Some full) → IfSome z (λ full. y ≡ Some full) → IfSome z (λ full. x ≡ Some full)
+full_on x y None first later = tt
+full_on x None (Some full) first later = absurd cc
+full_on x (Some other) (Some full) first later = first ∙ later
+
 rose_later : (n a b : ℕ) → RoseBy 0 n a → a ≤ b → RoseBy 0 n b
 rose_later n a b rose le = grind (arith, rose, le)
 
@@ -42,6 +52,7 @@ own_answered b b2 l l2 st said reply calls light unowed whole lone e next size b
       told b b2 l l2 st Rest t t said reply (ap (λ v. v.asked) e) (ap (λ v. v.replies) e) next (answers_none t reply size bare none)
       (made l l2 st Rest t t (stats_at said reply) calls called (omega (arith, stat, unowed)) refl) (rose_later t.faults l.faults l2.faults old.faults faults) (omega (arith, whole)) old;
   elsewhere = λ i. rw (lone i) (shrinks_same no_shares);
+  full = tt;
 }
 
 -- a request that is answered at once

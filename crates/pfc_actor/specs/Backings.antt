@@ -1,23 +1,25 @@
 -- What a run has of a file's volume, beside the file's core, and of the depot.
-use Rattle.std.specs.Prelude.{◌≡◌, ◌≢◌, ◌≤◌, ◌⊎◌, ℕ, ◌+◌, Bool, List, [], ◌∷◌, ◌++◌, Option, Some, None, IsTrue, Contains, length, sum_by}
+use Rattle.std.specs.Prelude.{◌≡◌, ◌≢◌, ◌≤◌, ◌⊎◌, ℕ, ◌+◌, Bool, List, [], ◌∷◌, ◌++◌, Option, Some, None, IfSome, IsTrue, Contains, length, sum_by}
 use Rattle.pfc_base.specs.Block.{count_of}
 use Rattle.pfc_world.specs.Counts.{Rose, RoseBy, last_count, add_count}
 use Rattle.pfc_world.specs.Depot.{AllSound, Gains, Loses, risen}
 use Rattle.pfc_world.specs.Files.{Files}
 use Rattle.pfc_world.specs.declared.refusal.Refusal.{Refusal}
 use Rattle.pfc_world.specs.declared.refusal.Refusal.TheVariants.{Fault, Memory}
-use Rattle.pfc_log.specs.declared.entry.Entry.TheVariants.{Direct}
+use Rattle.pfc_log.specs.declared.entry.Entry.TheVariants.{Direct, Wrote}
 use Rattle.pfc_log.specs.declared.entry.Way.TheVariants.{Device}
 use Rattle.pfc_log.specs.Charges.{charges, is_there}
 use Rattle.pfc_log.specs.Tallies.{tally}
+use Rattle.pfc_log.specs.Waiting.{GrowsPlainly}
 use Rattle.pfc_log.specs.Views.{times}
 use Rattle.pfc_log.specs.Lawful.{IsCached}
 use Rattle.pfc_core.specs.declared.loan.Did.{Did}
 use Rattle.pfc_core.specs.declared.loan.Did.TheVariants as did
-use Rattle.pfc_core.specs.Marks.{Mark}
+use Rattle.pfc_core.specs.Marks.{Mark, LoanKind}
 use Rattle.pfc_actor.specs.declared.backing.Standing.{Standing}
 use Rattle.pfc_actor.specs.declared.backing.Standing.TheVariants as standing
 use Rattle.pfc_core.specs.View.{CoreView}
+use Rattle.pfc_writer.specs.Writer.{Task, turned}
 
 -- ---- a volume
 
@@ -86,6 +88,11 @@ abbrev pub loan_weight : (Mark → ℕ) → Stand → ℕ
 loan_weight w (Lent mark done) = w mark
 loan_weight w _ = 0
 
+-- the block that a loan wrote, which isn't entered yet
+abbrev pub written_in : Stand → Option ℕ
+written_in (Lent mark (did.Wrote i)) = Some i
+written_in _ = None
+
 -- a failed write that isn't entered yet
 abbrev pub broken_in : Stand → ℕ
 broken_in (Lent mark did.Broke) = 1
@@ -105,7 +112,7 @@ abbrev pub StandsFor : Stand → CoreView → Type 0
 StandsFor Bare c = Unit {0}
 StandsFor (Taken path size) c = (path ≡ c.path) × (size ≡ c.size) × IsCached c.first
 StandsFor (Open path size k) c = IsOfFile path size k c × IsCached c.first
-StandsFor (Lent mark done) c = IsOfFile mark.path mark.size mark.block_size c × IsCached c.first
+StandsFor (Lent mark done) c = IsOfFile mark.path mark.size mark.block_size c × IsCached c.first × (mark.kind ≡ LoanKind)
 
 abbrev pub HasCovered : Stand → ℕ → BackingView → Type 0
 HasCovered Bare n b = Unit {0}
@@ -188,6 +195,18 @@ pub record KeepsBacking (b b2 : BackingView) : Type 0 where
   pub before : b2.before ≡ b.before
   pub backed : (c : CoreView) → IsBackingOf c b → IsBackingOf c b2
 
+-- a writer had its turn: what the loan wrote, if anything, is the block of its job
+pub record WroteFor (x : Option Task) (b2 : BackingView) (x2 : Option Task) : Type 0 where
+  pub task : Task
+  pub was : x ≡ Some task
+  pub is : x2 ≡ Some (turned task)
+  pub written : IfSome (written_in b2.stand) (λ i. task.job.block ≡ i)
+
+-- the log of a loan that comes back: a block was written, or none was written or dropped
+abbrev pub EntersBy : Option ℕ → CoreView → CoreView → Type 0
+EntersBy None c c2 = GrowsPlainly c.entries c2.entries
+EntersBy (Some i) c c2 = (c2 ≡ c) ⊎ (c2.entries ≡ c.entries ++ Wrote i ∷ [])
+
 -- the store of a core is lent, or comes back with what was done
 pub record LoanStep (c : CoreView) (b : BackingView) (c2 : CoreView) (b2 : BackingView) : Type 0 where
   pub tokens : (w : Mark → ℕ) → sum_by w c2.out + loan_weight w b.stand ≡ sum_by w c.out + loan_weight w b2.stand
@@ -198,6 +217,8 @@ pub record LoanStep (c : CoreView) (b : BackingView) (c2 : CoreView) (b2 : Backi
   pub before : b2.before ≡ b.before
   pub backed : IsBackingOf c b → IsBackingOf c2 b2
   pub charges : b.stand ≡ Bare → charges c2.first c2.entries ≡ charges c.first c.entries
+  pub enters : EntersBy (written_in b.stand) c c2
+  pub written : IfSome (written_in b2.stand) (λ i. (written_in b.stand ≡ Some i) × (c2 ≡ c))
 
 -- A direct read of block i for a client may be entered, since a failed call stands for it, or none is owed. Where the volume is
 -- home none is owed.

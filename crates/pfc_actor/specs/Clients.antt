@@ -13,7 +13,7 @@ use Rattle.pfc_actor.specs.Books.{BookView}
 use Rattle.pfc_actor.specs.StageView.{StageView, Rest}
 use Rattle.pfc_actor.specs.StageView as st
 use Rattle.pfc_actor.specs.Stages.{AtWork, Here, weight, shares}
-use Rattle.pfc_actor.specs.Steps.{IsCaused, IsTallied, Shrinks}
+use Rattle.pfc_actor.specs.Steps.{IsCaused, IsTallied, Shrinks, StaysFull}
 
 -- what it asked and was told, its line to the origin, and how far it has come with its request
 pub record ClientView : Type 0 where
@@ -43,6 +43,7 @@ pub record Moves (a a2 : ClientView) : Type 0 where
   pub tokens : (w : Mark → ℕ) → holds w a2 ≡ holds w a
   pub tallied : (t : Tally) → IsTallied a.book a.line a.stage t → IsTallied a2.book a2.line a2.stage t
   pub elsewhere : (i : ℕ) → Shrinks (shares i a.stage) (shares i a2.stage)
+  pub full : StaysFull a.stage a2.stage
 
 -- a token of core i that is held
 pub record Holds (i : ℕ) (b : BookView) (st : StageView) : Type 0 where

@@ -9,7 +9,7 @@ use Rattle.pfc_actor.specs.Wanted.{WantedView}
 
 -- No request is at work. An open whose size is known, which then makes a core of its file or has found one. A read that
 -- isn't planned yet, a close, and what is left of it. A read that goes on, with a landed block that is to be put to the
--- queue, or that found the queue full. A read at a part that is on disk, which wants the file's store lent, has it, has read the
+-- queue, or that found the queue full, with so many jobs. A read at a part that is on disk, which wants the file's store lent, has it, has read the
 -- part, couldn't read it, or leaves it for the origin. Within a step, a read with the action that it gave.
 pub data StageView : Type 0 where
   Rest : StageView
@@ -21,7 +21,7 @@ pub data StageView : Type 0 where
   Closed : StageView
   Reading : (op : OpView) → StageView
   Landed : (op : OpView) (job : Mark) → StageView
-  Full : (op : OpView) (job : Mark) → StageView
+  Full : (op : OpView) (job : Mark) (capacity : ℕ) → StageView
   Loading : (op : OpView) (disk : Mark) (part : Part) → StageView
   Borrowing : (op : OpView) (disk : Mark) (part : Part) → StageView
   Loaded : (op : OpView) (disk : Mark) → StageView

@@ -1,5 +1,5 @@
 -- What a client at a stage of its work holds and owes.
-use Rattle.std.specs.Prelude.{◌≡◌, ℕ, ◌+◌, ◌<◌, ◌≤◌, ◌==◌, true, false, List, length, Option, Some, Ok, if◌then◌else◌}
+use Rattle.std.specs.Prelude.{◌≡◌, ℕ, ◌+◌, ◌<◌, ◌≤◌, ◌==◌, ◌&&◌, not, true, false, List, length, Option, Some, Ok, if◌then◌else◌, sum_by}
 use Rattle.pfc_base.specs.Block.{IsPartOf}
 use Rattle.pfc_base.specs.declared.block.Part.{Part}
 use Rattle.pfc_base.specs.declared.block.Piece.{Piece}
@@ -9,7 +9,7 @@ use Rattle.pfc_client.specs.declared.request.Request.{Request}
 use Rattle.pfc_client.specs.declared.request.Request.TheVariants as q
 use Rattle.pfc_client.specs.Session.{place_at, is_free}
 use Rattle.pfc_client.specs.Permitted.{most_bytes}
-use Rattle.pfc_core.specs.Marks.{Mark, TicketKind, DiskKind}
+use Rattle.pfc_core.specs.Marks.{Mark, TicketKind, JobKind, DiskKind, kind_code}
 use Rattle.pfc_core.specs.View.{CoreView}
 use Rattle.pfc_read.specs.OpView.{OpView, Given, Nothing, ToRun, ToFill, ToLook, ToRead, ToEnd, held}
 use Rattle.pfc_read.specs.Steps.{IsTokenOf, IsLeaveOf, IsPinFor, IsDiskFor}
@@ -21,7 +21,7 @@ use Rattle.pfc_actor.specs.Books.{BookView, IsNext, open_weight}
 abbrev pub stage_weight : (Mark → ℕ) → StageView → ℕ
 stage_weight w (st.Reading op) = held w op
 stage_weight w (st.Landed op job) = held w op + w job
-stage_weight w (st.Full op job) = held w op + w job
+stage_weight w (st.Full op job capacity) = held w op + w job
 stage_weight w (st.Running op ticket) = held w op + w ticket
 stage_weight w (st.Directing op leave) = held w op
 stage_weight w (st.Looking op pin part) = held w op + w pin
@@ -41,7 +41,7 @@ weight w b st = open_weight w b.stays + stage_weight w st
 abbrev pub owed : StageView → ℕ
 owed (st.Reading op) = op.leaves
 owed (st.Landed op job) = op.leaves
-owed (st.Full op job) = op.leaves
+owed (st.Full op job capacity) = op.leaves
 owed (st.Running op ticket) = op.leaves
 owed (st.Directing op leave) = op.leaves + 1
 owed (st.Looking op pin part) = op.leaves
@@ -64,7 +64,7 @@ asking _ = 0
 abbrev pub failing : StageView → ℕ
 failing (st.Reading op) = op.failed
 failing (st.Landed op job) = op.failed
-failing (st.Full op job) = op.failed
+failing (st.Full op job capacity) = op.failed
 failing (st.Running op ticket) = op.failed
 failing (st.Directing op leave) = op.failed
 failing (st.Looking op pin part) = op.failed
@@ -84,7 +84,7 @@ is_fault _ = 0
 abbrev pub doomed : StageView → ℕ
 doomed (st.Reading op) = is_fault op.met
 doomed (st.Landed op job) = is_fault op.met
-doomed (st.Full op job) = is_fault op.met
+doomed (st.Full op job capacity) = is_fault op.met
 doomed (st.Running op ticket) = is_fault op.met
 doomed (st.Directing op leave) = is_fault op.met
 doomed (st.Looking op pin part) = is_fault op.met
@@ -111,7 +111,7 @@ op_shares i op = if op.reading.instance == i then record { hits = op.hits; waits
 abbrev pub shares : ℕ → StageView → Shares
 shares i (st.Reading op) = op_shares i op
 shares i (st.Landed op job) = op_shares i op
-shares i (st.Full op job) = op_shares i op
+shares i (st.Full op job capacity) = op_shares i op
 shares i (st.Running op ticket) = op_shares i op
 shares i (st.Directing op leave) = op_shares i op
 shares i (st.Looking op pin part) = op_shares i op
@@ -141,6 +141,10 @@ pub record Reads (b : BookView) (number : ℕ) (piece : Piece) (stay : Mark) : T
   pub is_open : place_at b.stays number ≡ Some stay
   pub short : piece.len ≤ most_bytes
 
+-- 1 for a ticket whose number isn't its flight's
+abbrev pub misnumbered : Mark → ℕ
+misnumbered m = if kind_code m.kind == kind_code TicketKind && not (m.flight == m.number) then 1 else 0
+
 -- the read at work, with this action given
 pub record GoesOn (b : BookView) (op : OpView) (given : Given) : Type 0 where
   pub number : ℕ
@@ -150,6 +154,7 @@ pub record GoesOn (b : BookView) (op : OpView) (given : Given) : Type 0 where
   pub size_is : op.reading.size ≡ stay.size
   pub client_is : op.reading.client ≡ b.number
   pub given_is : op.given ≡ given
+  pub numbered : sum_by misnumbered op.tickets ≡ 0
 
 -- the read at work, with a part to be read from disk
 pub record Loads (b : BookView) (op : OpView) (disk : Mark) (part : Part) : Type 0 where
@@ -166,9 +171,9 @@ AtWork b (st.Planning number piece) = (stay : Mark) × Reads b number piece stay
 AtWork b (st.Closing number) = IsAsked b (q.Close number) × ((stay : Mark) × (place_at b.stays number ≡ Some stay))
 AtWork b st.Closed = b.shut ≡ false
 AtWork b (st.Reading op) = GoesOn b op Nothing
-AtWork b (st.Landed op job) = GoesOn b op Nothing × (job.instance ≡ op.reading.instance)
-AtWork b (st.Full op job) = GoesOn b op Nothing × (job.instance ≡ op.reading.instance)
-AtWork b (st.Running op ticket) = GoesOn b op ToRun × IsTokenOf op.reading TicketKind ticket
+AtWork b (st.Landed op job) = GoesOn b op Nothing × (job.instance ≡ op.reading.instance) × (job.kind ≡ JobKind)
+AtWork b (st.Full op job capacity) = GoesOn b op Nothing × (job.instance ≡ op.reading.instance) × (job.kind ≡ JobKind)
+AtWork b (st.Running op ticket) = GoesOn b op ToRun × IsTokenOf op.reading TicketKind ticket × (ticket.flight ≡ ticket.number)
 AtWork b (st.Directing op leave) = GoesOn b op (ToFill leave.part) × IsLeaveOf op.reading leave
 AtWork b (st.Looking op pin part) = GoesOn b op (ToLook part) × IsPinFor op.reading part pin
 AtWork b (st.Loading op disk part) = Loads b op disk part
@@ -185,7 +190,7 @@ Here b (st.Joining wanted) c = c.path ≡ wanted.path
 Here b (st.Planning number piece) c = (stay : Mark) → place_at b.stays number ≡ Some stay → stay.instance ≡ c.instance
 Here b (st.Closing number) c = (stay : Mark) → place_at b.stays number ≡ Some stay → stay.instance ≡ c.instance
 Here b (st.Reading op) c = op.reading.instance ≡ c.instance
-Here b (st.Full op job) c = op.reading.instance ≡ c.instance
+Here b (st.Full op job capacity) c = op.reading.instance ≡ c.instance
 Here b (st.Loading op disk part) c = op.reading.instance ≡ c.instance
 Here b (st.Borrowing op disk part) c = op.reading.instance ≡ c.instance
 Here b (st.Loaded op disk) c = op.reading.instance ≡ c.instance

@@ -45,6 +45,11 @@ abbrev pub BreaksBy : ℕ → ℕ → Did → Type 0
 BreaksBy before after did.Broke = Rose before after
 BreaksBy before after _ = Unit {0}
 
+-- what a write of block i did, if anything
+abbrev pub WritesBlock : ℕ → Did → Type 0
+WritesBlock i (did.Wrote j) = i ≡ j
+WritesBlock i _ = Unit {0}
+
 -- a write by a loan that did nothing yet
 pub record WritesBy {D I : Type 0} (faults : D → ℕ) (old new : LoanView D I) : Type 0 where
   pub idle : old.did ≡ did.Nothing

@@ -1,14 +1,18 @@
 -- What a step of a client keeps.
-use Rattle.std.specs.Prelude.{◌≡◌, ℕ, ◌+◌, ◌*◌, ◌<◌, ◌≤◌, ◌==◌, false, count_by, sum_by}
+use Rattle.std.specs.Prelude.{◌≡◌, ◌⊎◌, ℕ, ◌+◌, ◌*◌, ◌<◌, ◌≤◌, ◌==◌, false, length, count_by, sum_by, Option, Some, None, IfSome}
 use Rattle.pfc_world.specs.Counts.{RoseBy, last_count}
+use Rattle.pfc_log.specs.declared.entry.DropCause.TheVariants as cause
 use Rattle.pfc_log.specs.Tallies.{Tally, tally, together}
+use Rattle.pfc_log.specs.Waiting.{GrowsPlainly}
 use Rattle.pfc_client.specs.Told.{stats, lost, opens, reads, bytes}
 use Rattle.pfc_client.specs.Permitted.{is_fetch}
-use Rattle.pfc_core.specs.Marks.{Mark, sees, listed}
-use Rattle.pfc_core.specs.Calls.{foreign}
+use Rattle.pfc_core.specs.Marks.{Mark, JobKind, sees, listed}
+use Rattle.pfc_core.specs.Calls.{foreign, Drops}
+use Rattle.pfc_core.specs.OpenJobs.{a_job, settled}
 use Rattle.pfc_core.specs.LineView.{LineView}
 use Rattle.pfc_core.specs.View.{CoreView}
 use Rattle.pfc_writer.specs.Queue.{QueueView}
+use Rattle.pfc_actor.specs.StageView as st
 use Rattle.pfc_actor.specs.StageView.{StageView}
 use Rattle.pfc_actor.specs.Books.{BookView}
 use Rattle.pfc_actor.specs.Stages.{Shares, shares, weight, owed, asking, failing, doomed}
@@ -48,7 +52,21 @@ pub record Knows (b : BookView) (st : StageView) (c : CoreView) : Type 0 where
   pub known : (m : Mark) → m.instance ≡ c.instance → weight (sees m) b st ≤ listed m c.out
   pub own : sum_by (foreign c) c.out ≡ 0
 
--- a step of the client on a core
+-- the job for which the queue had no room, and how many it had
+abbrev pub full_in : StageView → Option (Mark × ℕ)
+full_in (st.Full op job capacity) = Some (job, capacity)
+full_in _ = None
+
+-- only a client that had found the queue full is at that
+abbrev pub StaysFull : StageView → StageView → Type 0
+StaysFull old new = IfSome (full_in new) (λ full. full_in old ≡ Some full)
+
+-- A client that found the queue full drops its job so. Otherwise no block is written or dropped.
+abbrev pub GrowsBy : Option (Mark × ℕ) → CoreView → CoreView → Type 0
+GrowsBy None c c2 = GrowsPlainly c.entries c2.entries
+GrowsBy (Some full) c c2 = (c2 ≡ c) ⊎ Drops c full.0 (cause.Full full.1) c2
+
+-- A step of the client on a core. A job that this gives out is of a block that is neither written nor dropped.
 pub record Step (b : BookView) (l : LineView) (st : StageView) (c : CoreView) (b2 : BookView) (l2 : LineView) (st2 : StageView) (c2 : CoreView) : Type 0 where
   pub number : b2.number ≡ b.number
   pub link : l2.number ≡ l.number
@@ -58,6 +76,9 @@ pub record Step (b : BookView) (l : LineView) (st : StageView) (c : CoreView) (b
   pub tallied : (rest : Tally) → IsTallied b l st (together rest (tally b.number c.entries)) → IsTallied b2 l2 st2 (together rest (tally b.number c2.entries))
   pub within : IsWithin (shares c.instance st) c.block_size (tally b.number c.entries) → IsWithin (shares c.instance st2) c.block_size (tally b.number c2.entries)
   pub elsewhere : (i : ℕ) → (i == c.instance) ≡ false → Shrinks (shares i st) (shares i st2)
+  pub grows : GrowsBy (full_in st) c c2
+  pub fresh : sum_by (settled c2) c2.out ≤ sum_by (settled c2) c.out
+  pub full : StaysFull st st2
   pub others : (m : ℕ) → (m == b.number) ≡ false → tally m c2.entries ≡ tally m c.entries
 
 -- a step on no core
@@ -68,6 +89,14 @@ pub record Own (b : BookView) (l : LineView) (st : StageView) (b2 : BookView) (l
   pub tokens : (w : Mark → ℕ) → weight w b2 st2 ≡ weight w b st
   pub tallied : (t : Tally) → IsTallied b l st t → IsTallied b2 l2 st2 t
   pub elsewhere : (i : ℕ) → Shrinks (shares i st) (shares i st2)
+  pub full : StaysFull st st2
+
+-- the queue had no room for a job, with so many in it
+pub record FindsFull (full : Mark × ℕ) (q q2 : QueueView) : Type 0 where
+  pub job : full.0.kind ≡ JobKind
+  pub capacity_is : full.1 ≡ q.capacity
+  pub many : q.capacity ≤ length q.jobs
+  pub same : q2 ≡ q
 
 -- a landed block is put to the queue, or finds no room there
 pub record Puts (b : BookView) (l : LineView) (st : StageView) (q : QueueView) (b2 : BookView) (l2 : LineView) (st2 : StageView) (q2 : QueueView) : Type 0 where
@@ -78,3 +107,6 @@ pub record Puts (b : BookView) (l : LineView) (st : StageView) (q : QueueView) (
   pub capacity : q2.capacity ≡ q.capacity
   pub tallied : (t : Tally) → IsTallied b l st t → IsTallied b2 l2 st2 t
   pub elsewhere : (i : ℕ) → Shrinks (shares i st) (shares i st2)
+  pub jobs : sum_by a_job q.jobs ≡ length q.jobs → sum_by a_job q2.jobs ≡ length q2.jobs
+  pub more : length q.jobs ≤ length q2.jobs
+  pub full : IfSome (full_in st2) (λ full. (full_in st ≡ Some full × (q2 ≡ q)) ⊎ FindsFull full q q2)

@@ -2,7 +2,7 @@
 ghost use Rattle.std.specs.Prelude.{◌≡◌, Contains, false, IsTrue, IfOk, IfErr, OnOk, OnErr};
 ghost use Rattle.pfc_base.specs.Cinfo.{IsBlockSize};
 ghost use Rattle.pfc_world.specs.Counts.{RefusalCause};
-ghost use Rattle.pfc_actor.specs.Backings.{bare, depot_of, path_in, IsSoundAtHome, TakesVolume, StaysOut, IsOutAs, PutsBack, Opens, StartsWith, Later, OpensBy, standing_of, IsTaken, IsOpen, IsLent, KeepsBacking, LoanStep, AllowsLeave};
+ghost use Rattle.pfc_actor.specs.Backings.{bare, depot_of, path_in, IsSoundAtHome, TakesVolume, StaysOut, IsOutAs, PutsBack, Opens, StartsWith, Later, OpensBy, standing_of, IsTaken, IsOpen, IsLent, written_in, KeepsBacking, WroteFor, LoanStep, AllowsLeave};
 ghost use Rattle.pfc_actor.specs.Steps.{Own};
 
 use crate::client::Client;
@@ -161,6 +161,7 @@ impl<W: World, P: Depot<W>> Backing<W, P> {
     pub fn read<O: Origin<W>>(&mut self, client: &mut Client<W, O>)
         requires { IsTrue W.told → IsTrue P.Data.told }
         ensures keeps { KeepsBacking self.old self.new }
+        ensures written { written_in self.new.stand ≡ written_in self.old.stand }
         ensures own { Own client.old.book client.old.line client.old.stage client.new.book client.new.line client.new.stage }
     {
         let Held::Lent(loan) = &mut self.held else {
@@ -173,7 +174,8 @@ impl<W: World, P: Depot<W>> Backing<W, P> {
     /// A writer writes the block of its job by the loan, where that is of the job's file and did nothing yet. It tells whether the writer had its turn.
     pub fn write(&mut self, writer: &mut Writer<W>) -> bool
         ensures keeps { KeepsBacking self.old self.new }
-        ensures job { writer.new ≡ writer.old }
+        ensures yes { IsTrue result → WroteFor writer.old self.new writer.new }
+        ensures no { result ≡ false → (writer.new ≡ writer.old) × (self.new ≡ self.old) }
     {
         let Held::Lent(loan) = &mut self.held else {
             return false;

@@ -68,6 +68,7 @@ fn run<W: World, O: Origin<W>>(
     match line.run(alloc, ticket) {
         Flight::Landed(ticket, twin) => match core.land(ticket, twin) {
             Ok(job) => {
+                let _log = core.log();
                 op.supply(Done::Landed);
                 Stage::Landed(op, job)
             }
@@ -237,13 +238,13 @@ pub(crate) fn drop_full<W: World, O: Origin<W>>(
     job: Job<W>,
     capacity: u32,
 ) -> Stage<W>
-    requires work { AtWork book.now (st.Full op job) }
-    requires knows { Knows book.now (st.Full op job) core.old }
+    requires work { AtWork book.now (st.Full op job capacity) }
+    requires knows { Knows book.now (st.Full op job capacity) core.old }
     requires here { op.reading.instance ≡ core.old.instance }
-    requires caused { IsCaused book.now line.now (st.Full op job) }
+    requires caused { IsCaused book.now line.now (st.Full op job capacity) }
     ensures work { AtWork book.now (seen result) }
     ensures caused { IsCaused book.now line.now (seen result) }
-    ensures step { Step book.now line.now (st.Full op job) core.old book.now line.now (seen result) core.new }
+    ensures step { Step book.now line.now (st.Full op job capacity) core.old book.now line.now (seen result) core.new }
     ensures calm { GrowsCalmly core.old.entries core.new.entries }
 {
     match core.drop_job(job, DropCause::Full { capacity }) {

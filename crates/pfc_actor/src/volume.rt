@@ -1,5 +1,5 @@
 // What is done with a volume, its store or the loan of that.
-ghost use Rattle.std.specs.Prelude.{◌≡◌, ◌≢◌, ◌≤◌, List, ℕ, Contains, length, false, IsTrue, IfOk, IfErr, OnOk, OnErr, MatchBool};
+ghost use Rattle.std.specs.Prelude.{◌≡◌, ◌≢◌, ◌≤◌, List, ℕ, Contains, length, false, Some, IsTrue, IfOk, IfErr, OnOk, OnErr, MatchBool};
 ghost use Rattle.pfc_base.specs.Block.{count_of};
 ghost use Rattle.pfc_base.specs.Cinfo.{IsBlockSize};
 ghost use Rattle.pfc_world.specs.Counts.{add_count, last_count};
@@ -7,7 +7,8 @@ ghost use Rattle.pfc_world.specs.Depot.{AllSound, Loses, risen};
 ghost use Rattle.pfc_world.specs.Disk.{IsImage};
 ghost use Rattle.pfc_world.specs.Info.{IsMain};
 ghost use Rattle.pfc_actor.specs.Backings.{Bare, Taken, IsSoundAtHome, IsTaken, Later, Opens, OpensBy};
-ghost use Rattle.pfc_actor.specs.Standings.{stand_of, now_of, Counted, GivenBy, IsParted, LentBy, WritesBy};
+ghost use Rattle.pfc_actor.specs.Standings.{stand_of, now_of, Counted, GivenBy, IsParted, LentBy, WritesBlock, WritesBy};
+ghost use Rattle.pfc_writer.specs.Writer.{Task, turned};
 
 use crate::backing::Held;
 use pfc_base::{BlockSet, Memory};
@@ -249,7 +250,8 @@ pub(crate) fn write_by<W: World, D: DataDev<W>, I: InfoDev<W>>(
     writer: &mut Writer<W>,
 ) -> bool
     ensures loan { MatchBool result (WritesBy D.faults loan.old loan.new) (loan.new ≡ loan.old) }
-    ensures job { writer.new ≡ writer.old }
+    ensures yes { IsTrue result → (task : Task) × (writer.old ≡ Some task) × (writer.new ≡ Some (turned task)) × WritesBlock task.job.block loan.new.did }
+    ensures no { result ≡ false → writer.new ≡ writer.old }
 {
     if loan.did() != Did::Nothing {
         return false;

@@ -40,7 +40,7 @@ module _ (h : Home) (stays readings pins disks : List Held) (loan : Option ℕ) 
   pub fail_loses : Changes x.block (Some x) None old new → x.landed ≡ false → Loses (out_of h stays readings pins disks loan old.slots) (mark_in TicketKind h (flight_of x)) (out_of h stays readings pins disks loan new.slots)
   fail_loses moved out w = omega (arith, weigh_out w h stays readings pins disks loan old.slots, weigh_out w h stays readings pins disks loan new.slots, moved.weighs (slot_weight h w), weight_flying w h x out)
 
-single_zero : (f : Slot → ℕ) (ss : List Slot) → IsSingle ss → ((x : Slot) → slot_of x.block ss ≡ Some x → f x ≡ 0) → sum_by f ss ≡ 0
+pub single_zero : (f : Slot → ℕ) (ss : List Slot) → IsSingle ss → ((x : Slot) → slot_of x.block ss ≡ Some x → f x ≡ 0) → sum_by f ss ≡ 0
 single_zero f [] single none = refl
 single_zero f (s ∷ ss) single none =
     let first = none s (ap (λ (q : Bool). if q then Some s else slot_of s.block ss) (eq-eqb s.block s.block refl)) in
@@ -52,7 +52,7 @@ single_zero f (s ∷ ss) single none =
 seen_flight : (kind : Kind) (h : Home) (p : Held) (x : Slot) → (flight_of x ≡ p → ⊥) → sees (mark_in kind h p) (mark_in kind h (flight_of x)) ≡ 0
 seen_flight kind h p x apart = unseen (mark_in kind h p) (mark_in kind h (flight_of x)) (λ yes. apart (held_is p (flight_of x) (sym (same_held kind h p (flight_of x)) ∙ yes)))
 
-by_slot : (w : Mark → ℕ) (h : Home) (x : Slot) → (x.landed ≡ false → w (mark_in TicketKind h (flight_of x)) ≡ 0) → (x.landed ≡ true → x.job ≡ true → w (mark_in JobKind h (flight_of x)) ≡ 0) → slot_weight h w x ≡ 0
+pub by_slot : (w : Mark → ℕ) (h : Home) (x : Slot) → (x.landed ≡ false → w (mark_in TicketKind h (flight_of x)) ≡ 0) → (x.landed ≡ true → x.job ≡ true → w (mark_in JobKind h (flight_of x)) ≡ 0) → slot_weight h w x ≡ 0
 by_slot w h x t j = by_bool x.landed
     (λ l. by_bool x.job (λ d. weight_waits w h x l d ∙ j l d) (λ d. weight_idle w h x l d))
     (λ l. weight_flying w h x l ∙ t l)

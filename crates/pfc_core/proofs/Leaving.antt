@@ -37,7 +37,7 @@ pins_on_is i t h stays readings pins disks loan slots =
     omega (arith, weigh_out w h stays readings pins disks loan slots, a, b, c, d, e, f)
 
 -- what weighs at one block only, weighs as the slot there
-single_at : (f : Slot → ℕ) (i : ℕ) (ss : List Slot) → IsSingle ss → ((s : Slot) → s.block ≢ i → f s ≡ 0) → sum_by f ss ≡ weight_in f (slot_of i ss)
+pub single_at : (f : Slot → ℕ) (i : ℕ) (ss : List Slot) → IsSingle ss → ((s : Slot) → s.block ≢ i → f s ≡ 0) → sum_by f ss ≡ weight_in f (slot_of i ss)
 single_at f i [] single none = refl
 single_at f i (s ∷ ss) single none = by_bool (s.block == i)
     (λ yes.

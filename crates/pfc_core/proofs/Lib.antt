@@ -25,3 +25,4 @@ mod Begun
 mod Leaving
 mod Looking
 mod Releasing
+mod OpenJobs

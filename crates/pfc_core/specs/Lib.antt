@@ -27,3 +27,4 @@ pub mod Lending
 pub mod Jobs
 pub mod Disks
 pub mod Pinned
+pub mod OpenJobs

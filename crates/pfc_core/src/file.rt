@@ -6,6 +6,7 @@ ghost use Rattle.pfc_log.specs.Lawful.{Lawful, IsComplete};
 ghost use Rattle.pfc_core.specs.View.{CoreView, why_of};
 ghost use Rattle.pfc_core.specs.Lending.{loans_out};
 ghost use Rattle.pfc_core.specs.Calls.{foreign, Attaches, Detaches, Begins, Strays};
+ghost use Rattle.pfc_core.specs.OpenJobs.{AreJobs};
 
 mod disk;
 mod flights;
@@ -240,11 +241,12 @@ impl<W: World> FileCore<W> {
         Ok(Retired { log })
     }
 
-    /// Hands out what the type keeps: each token that is out is this core's.
+    /// Hands out what the type keeps: each token that is out is this core's, and the block of each job that is out is in memory.
     pub fn own(&self)
-        ensures { sum_by (foreign self.now) self.now.out ≡ 0 }
+        ensures own { sum_by (foreign self.now) self.now.out ≡ 0 }
+        ensures jobs { AreJobs self.now }
     {
-        let _all = self.stays.len();
+        let _all = self.shelf.len();
     }
 
     /// Hands out what the type keeps: the log is complete once no token is out.

@@ -10,3 +10,4 @@ pub mod Positions
 pub mod Tallies
 pub mod Uncaching
 pub mod Charges
+pub mod Waiting

@@ -37,9 +37,9 @@ failures-added n lines replies logs before count fit = record { faults = rose_by
 unasked-added : (n : ℕ) (logs : List Section) (before count : ℕ × ℕ) → IsUnasked n logs (0, 0) count → IsUnasked n logs before (added before count)
 unasked-added n logs before count none = record { spent = rw none.spent (let a : add_count before.0 0 ≡ before.0 = omega arith in let b : add_count before.1 0 ≡ before.1 = omega arith in rw (a, b) refl); logged = none.logged }
 
-pub caused-added : (told : Bool) (files : Files) (k : ℕ) (lines : List Line) (before count : Spent) (faults faults' : ℕ) (report : ReportView) →
-    IsCausedReport told files k lines nothing_spent count faults faults' report → IsCausedReport told files k lines before (λ n. added (before n) (count n)) faults faults' report
-caused-added told files k lines before count faults faults' report caused = record {
+pub caused-added : (told : Bool) (files : Files) (k capacity : ℕ) (lines : List Line) (before count : Spent) (faults faults' : ℕ) (report : ReportView) →
+    IsCausedReport told files k capacity lines nothing_spent count faults faults' report → IsCausedReport told files k capacity lines before (λ n. added (before n) (count n)) faults faults' report
+caused-added told files k capacity lines before count faults faults' report caused = record {
   clients = caused.clients;
   permitted = All-weaker _ _ (λ c. permitted-added told files (asked c.number lines) c.replies (before c.number).1 (count c.number).1) report.clients caused.permitted;
   complete = caused.complete;
@@ -47,25 +47,26 @@ caused-added told files k lines before count faults faults' report caused = reco
   served = caused.served;
   failed = All-weaker _ _ (λ c. failures-added c.number (asked c.number lines) c.replies report.logs (before c.number).1 (count c.number).1) report.clients caused.failed;
   disk = caused.disk;
+  full = caused.full;
   others = λ n none. unasked-added n report.logs (before n) (count n) (caused.others n none);
 }
 
 -- what was spent is said number by number
-pub caused-same : (told : Bool) (files : Files) (k : ℕ) (lines : List Line) (before after now : Spent) (faults faults' : ℕ) (report : ReportView) →
-    ((n : ℕ) → now n ≡ after n) → IsCausedReport told files k lines before after faults faults' report → IsCausedReport told files k lines before now faults faults' report
-caused-same told files k lines before after now faults faults' report same caused =
-    subst (λ (spent : Spent). IsCausedReport told files k lines before spent faults faults' report) (sym (λ i n. same n i)) caused
+pub caused-same : (told : Bool) (files : Files) (k capacity : ℕ) (lines : List Line) (before after now : Spent) (faults faults' : ℕ) (report : ReportView) →
+    ((n : ℕ) → now n ≡ after n) → IsCausedReport told files k capacity lines before after faults faults' report → IsCausedReport told files k capacity lines before now faults faults' report
+caused-same told files k capacity lines before after now faults faults' report same caused =
+    subst (λ (spent : Spent). IsCausedReport told files k capacity lines before spent faults faults' report) (sym (λ i n. same n i)) caused
 
 -- what was spent before is said so too
-pub caused-since : {X : Type 0} (told : Bool) (files : Files) (k : ℕ) (lines : List Line) (before mid after : Spent) (faults faults' : ℕ) (result : Result ReportView X) →
-    ((n : ℕ) → mid n ≡ before n) → IfOk result (IsCausedReport told files k lines mid after faults faults') → IfOk result (IsCausedReport told files k lines before after faults faults')
-caused-since told files k lines before mid after faults faults' result same caused =
-    subst (λ (spent : Spent). IfOk result (IsCausedReport told files k lines spent after faults faults')) (λ i n. same n i) caused
+pub caused-since : {X : Type 0} (told : Bool) (files : Files) (k capacity : ℕ) (lines : List Line) (before mid after : Spent) (faults faults' : ℕ) (result : Result ReportView X) →
+    ((n : ℕ) → mid n ≡ before n) → IfOk result (IsCausedReport told files k capacity lines mid after faults faults') → IfOk result (IsCausedReport told files k capacity lines before after faults faults')
+caused-since told files k capacity lines before mid after faults faults' result same caused =
+    subst (λ (spent : Spent). IfOk result (IsCausedReport told files k capacity lines spent after faults faults')) (λ i n. same n i) caused
 
 -- failed calls that the depot counted after it was listed, it counted since before
-pub caused-earlier : (told : Bool) (files : Files) (k : ℕ) (lines : List Line) (before after : Spent) (faults mid faults' : ℕ) (report : ReportView) →
-    faults ≤ mid → IsCausedReport told files k lines before after mid faults' report → IsCausedReport told files k lines before after faults faults' report
-caused-earlier told files k lines before after faults mid faults' report low caused = record {
+pub caused-earlier : (told : Bool) (files : Files) (k capacity : ℕ) (lines : List Line) (before after : Spent) (faults mid faults' : ℕ) (report : ReportView) →
+    faults ≤ mid → IsCausedReport told files k capacity lines before after mid faults' report → IsCausedReport told files k capacity lines before after faults faults' report
+caused-earlier told files k capacity lines before after faults mid faults' report low caused = record {
   clients = caused.clients;
   permitted = caused.permitted;
   complete = caused.complete;
@@ -73,5 +74,6 @@ caused-earlier told files k lines before after faults mid faults' report low cau
   served = caused.served;
   failed = caused.failed;
   disk = rose_by-earlier faults mid faults' _ low caused.disk;
+  full = caused.full;
   others = caused.others;
 }

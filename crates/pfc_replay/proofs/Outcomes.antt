@@ -44,7 +44,7 @@ caused told files given call config host mid host' depot depot' before after (ou
 
 -- what a plan's run comes to is what its schedule comes to
 goes : (told : Bool) (files : Files) (config : Settings) (tells : Bool) (texts : Texts) (name : List ℕ) (lines : List Line) (host mid host' : ℕ) (depot depot' : DepotCounts) (before after : Spent)
-    (outcome : Outcome) → Says config.writers tells texts name lines → host ≤ mid → Goes told files config.block_size lines mid host' depot depot' before after outcome →
+    (outcome : Outcome) → Says config.writers tells texts name lines → host ≤ mid → Goes told files config lines mid host' depot depot' before after outcome →
     Runs told files config tells texts name host host' depot depot' before after outcome
 goes told files config tells texts name lines host mid host' depot depot' before after (out.Report report) says low went = (lines, says, went.0, went.1)
 goes told files config tells texts name lines host mid host' depot depot' before after out.Usage says low went = absurd went
@@ -58,10 +58,10 @@ goes told files config tells texts name lines host mid host' depot depot' before
 
 pub goes-result : (told : Bool) (files : Files) (config : Settings) (tells : Bool) (texts : Texts) (name : List ℕ) (lines : List Line) (host mid host' : ℕ) (depot depot' : DepotCounts)
     (before since after : Spent) (result : Result Outcome Memory) → Says config.writers tells texts name lines → host ≤ mid → ((n : ℕ) → since n ≡ before n) →
-    IfOk result (Goes told files config.block_size lines mid host' depot depot' since after) → IfOk result (Runs told files config tells texts name host host' depot depot' before after)
+    IfOk result (Goes told files config lines mid host' depot depot' since after) → IfOk result (Runs told files config tells texts name host host' depot depot' before after)
 goes-result told files config tells texts name lines host mid host' depot depot' before since after (Ok outcome) says low still went =
     goes told files config tells texts name lines host mid host' depot depot' before after outcome says low
-    (subst (λ (spent : Spent). Goes told files config.block_size lines mid host' depot depot' spent after outcome) (λ i n. still n i) went)
+    (subst (λ (spent : Spent). Goes told files config lines mid host' depot depot' spent after outcome) (λ i n. still n i) went)
 goes-result told files config tells texts name lines host mid host' depot depot' before since after (Err e) says low still went = tt
 
 pub caused-result : (told : Bool) (files : Files) (given : Asked) (call : Call) (config : Config) (settings : Settings) (host mid host' : ℕ) (texts : Texts) (depot depot' : DepotCounts) (before since after : Spent) (result : Result Outcome Memory) →
@@ -81,9 +81,9 @@ pub config-refused : (told : Bool) (files : Files) (given : Asked) (call : Call)
 config-refused told files given call host host' depot depot' before after (Bad line kind) outcome e words config =
     subst (Causes told files given host host' depot depot' before after) (sym e) (call, words, config)
 
-plain-report : (told : Bool) (files : Files) (lines : List Line) (before after : Spent) (k faults faults' : ℕ) (report : ReportView) →
-    IsCausedReport told files k lines before after faults faults' report → ArePlainWhereUnhurt told files lines before after report
-plain-report told files lines before after k faults faults' report whole = λ i d low stayed none.
+plain-report : (told : Bool) (files : Files) (lines : List Line) (before after : Spent) (k capacity faults faults' : ℕ) (report : ReportView) →
+    IsCausedReport told files k capacity lines before after faults faults' report → ArePlainWhereUnhurt told files lines before after report
+plain-report told files lines before after k capacity faults faults' report whole = λ i d low stayed none.
     plain_permitted told files _ _ _ _ (whole.permitted i d low) stayed none
 
 -- the replies of clients whose link had no fault are plain
@@ -91,7 +91,7 @@ pub plain-outcome : (told : Bool) (files : Files) (given : Asked) (host host' : 
     Causes told files given host host' depot depot' before after outcome → status_of outcome ≡ 0 → Appends sink old new (text_of outcome) →
     WritesPlain told files given depot depot' before after sink old new
 plain-outcome told files given host host' depot depot' before after sink old new (out.Report report) cause zero wrote =
-    (report, cause.0, cause.1, cause.2, cause.3, cause.5, plain-report told files cause.2 before after cause.1.blocksize depot.faults depot'.faults report cause.5, wrote)
+    (report, cause.0, cause.1, cause.2, cause.3, cause.5, plain-report told files cause.2 before after cause.1.blocksize cause.1.queue depot.faults depot'.faults report cause.5, wrote)
 plain-outcome told files given host host' depot depot' before after sink old new out.Usage cause zero wrote = absurd (omega (arith, zero))
 plain-outcome told files given host host' depot depot' before after sink old new (out.Config line kind) cause zero wrote = absurd (omega (arith, zero))
 plain-outcome told files given host host' depot depot' before after sink old new (out.Schedule line) cause zero wrote = absurd (omega (arith, zero))

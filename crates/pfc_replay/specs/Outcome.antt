@@ -87,7 +87,7 @@ Failed (part.Link number) host host' depot depot' = Rose host host' × IsListed 
 abbrev pub Causes : Bool → Files → Asked → ℕ → ℕ → DepotCounts → DepotCounts → Spent → Spent → Outcome → Type 0
 Causes told files given host host' depot depot' before after (out.Report report) =
     (call : Call) × (config : Config) × (lines : List Line) × IsPlanned given call config lines × IsListed depot depot'
-    × IsCausedReport told files config.blocksize lines before after depot.faults depot'.faults report
+    × IsCausedReport told files config.blocksize config.queue lines before after depot.faults depot'.faults report
 Causes told files given host host' depot depot' before after out.Usage = call_of given.words ≡ None
 Causes told files given host host' depot depot' before after (out.Config line kind) =
     (call : Call) × (call_of given.words ≡ Some call) × SaysOf given call.config (λ text. configured text call.capacity ≡ Err (Bad line kind))
@@ -112,7 +112,7 @@ ArePlainWhereUnhurt told files lines before after report =
 abbrev pub WritesPlain : Bool → Files → Asked → DepotCounts → DepotCounts → Spent → Spent → Bool → List ℕ → List ℕ → Type 0
 WritesPlain told files given depot depot' before after sink old new =
     (report : ReportView) × (call : Call) × (config : Config) × (lines : List Line) × IsPlanned given call config lines
-    × IsCausedReport told files config.blocksize lines before after depot.faults depot'.faults report × ArePlainWhereUnhurt told files lines before after report
+    × IsCausedReport told files config.blocksize config.queue lines before after depot.faults depot'.faults report × ArePlainWhereUnhurt told files lines before after report
     × Appends sink old new (report_text report)
 
 -- The host tells its texts, the words, the configuration and the schedule are of the form, and no count of the host, the depot's

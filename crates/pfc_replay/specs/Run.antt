@@ -17,18 +17,18 @@ use Rattle.pfc_replay.specs.declared.outcome.Outcome.TheVariants as out
 abbrev pub laid_out : Config → Settings
 laid_out config = record { block_size = config.blocksize; capacity = config.queue; writers = config.writers }
 
--- The cause of an outcome of these lines, in blocks of k bytes.
-abbrev pub Goes : Bool → Files → ℕ → List Line → ℕ → ℕ → DepotCounts → DepotCounts → Spent → Spent → Outcome → Type 0
-Goes told files k lines host host' depot depot' before after (out.Report report) =
-    IsListed depot depot' × IsCausedReport told files k lines before after depot.faults depot'.faults report
-Goes told files k lines host host' depot depot' before after (out.Fault part.Depot) = Failed part.Depot host host' depot depot'
-Goes told files k lines host host' depot depot' before after (out.Fault (part.Link number)) =
+-- The cause of an outcome of these lines, so laid out.
+abbrev pub Goes : Bool → Files → Settings → List Line → ℕ → ℕ → DepotCounts → DepotCounts → Spent → Spent → Outcome → Type 0
+Goes told files settings lines host host' depot depot' before after (out.Report report) =
+    IsListed depot depot' × IsCausedReport told files settings.block_size settings.capacity lines before after depot.faults depot'.faults report
+Goes told files settings lines host host' depot depot' before after (out.Fault part.Depot) = Failed part.Depot host host' depot depot'
+Goes told files settings lines host host' depot depot' before after (out.Fault (part.Link number)) =
     Failed (part.Link number) host host' depot depot' × IsTrue (is_asked lines number)
-Goes told files k lines host host' depot depot' before after (out.Fault part.Config) = ⊥
-Goes told files k lines host host' depot depot' before after (out.Fault part.Schedule) = ⊥
-Goes told files k lines host host' depot depot' before after (out.Schedule line) = ⊥
-Goes told files k lines host host' depot depot' before after out.Usage = ⊥
-Goes told files k lines host host' depot depot' before after (out.Config line kind) = ⊥
+Goes told files settings lines host host' depot depot' before after (out.Fault part.Config) = ⊥
+Goes told files settings lines host host' depot depot' before after (out.Fault part.Schedule) = ⊥
+Goes told files settings lines host host' depot depot' before after (out.Schedule line) = ⊥
+Goes told files settings lines host host' depot depot' before after out.Usage = ⊥
+Goes told files settings lines host host' depot depot' before after (out.Config line kind) = ⊥
 
 -- where the texts are told, the schedule of this name says these lines to so many writers
 abbrev pub Says : ℕ → Bool → Texts → List ℕ → List Line → Type 0
@@ -45,7 +45,7 @@ RunsTo writers tells texts name (part.Link number) = (lines : List Line) × Says
 abbrev pub Runs : Bool → Files → Settings → Bool → Texts → List ℕ → ℕ → ℕ → DepotCounts → DepotCounts → Spent → Spent → Outcome → Type 0
 Runs told files settings tells texts name host host' depot depot' before after (out.Report report) =
     (lines : List Line) × Says settings.writers tells texts name lines × IsListed depot depot'
-    × IsCausedReport told files settings.block_size lines before after depot.faults depot'.faults report
+    × IsCausedReport told files settings.block_size settings.capacity lines before after depot.faults depot'.faults report
 Runs told files settings tells texts name host host' depot depot' before after (out.Schedule line) =
     IsTrue tells → IsSomeAnd (file_at texts name) (λ text. schedule_of settings.writers text ≡ Err line)
 Runs told files settings tells texts name host host' depot depot' before after (out.Fault part) =

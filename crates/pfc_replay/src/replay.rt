@@ -67,7 +67,7 @@ fn run_plan<W: World, H: Host<W>, P: Depot<W>, K: Clock>(
     requires block_size { IsBlockSize settings.block_size }
     requires home { P.out depot.old ≡ [] }
     requires sound { IsSoundAtHome W.told P.Data.told W.files (P.home_data depot.old) (P.home_main depot.old) }
-    ensures goes { IfOk result (Goes W.told W.files settings.block_size plan.now (H.faults host.old) (H.faults host.new) (counts_of P.faults P.unlisted depot.old) (counts_of P.faults P.unlisted depot.new) (H.spent host.old) (H.spent host.new)) }
+    ensures goes { IfOk result (Goes W.told W.files settings plan.now (H.faults host.old) (H.faults host.new) (counts_of P.faults P.unlisted depot.old) (counts_of P.faults P.unlisted depot.new) (H.spent host.old) (H.spent host.new)) }
     ensures home { P.out depot.new ≡ [] }
     ensures sound { IsSoundAtHome W.told P.Data.told W.files (P.home_data depot.new) (P.home_main depot.new) }
 {

@@ -1,5 +1,5 @@
 -- Which reports are caused: what may be reported of a schedule, where the counts of the clients' links were these and are those.
-use Rattle.std.specs.Prelude.{◌≡◌, ◌≢◌, ℕ, ◌+◌, ◌*◌, ◌<◌, ◌≤◌, Bool, List, [], length, map, All, AllPairs, sum_by, Option, Some, None}
+use Rattle.std.specs.Prelude.{◌≡◌, ◌≢◌, ℕ, ◌+◌, ◌*◌, ◌<◌, ◌≤◌, Bool, List, [], length, map, take, slice_get, slice_index_or, All, AllPairs, sum_by, Option, Some, None}
 use Rattle.pfc_world.specs.Files.{Files, HasSize}
 use Rattle.pfc_world.specs.Counts.{RoseBy, last_count}
 use Rattle.pfc_client.specs.declared.reply.Reply.{Reply}
@@ -9,6 +9,10 @@ use Rattle.pfc_base.specs.Block.{count_of}
 use Rattle.pfc_log.specs.Charges.{charges, is_there}
 use Rattle.pfc_log.specs.Uncaching.{cause_of}
 use Rattle.pfc_log.specs.Views.{times}
+use Rattle.pfc_log.specs.Waiting.{is_worked, WasFull}
+use Rattle.pfc_log.specs.declared.entry.DropCause.TheVariants as cause
+use Rattle.pfc_log.specs.declared.entry.Entry.{Entry}
+use Rattle.pfc_log.specs.declared.entry.Entry.TheVariants.{Dropped}
 use Rattle.pfc_log.specs.declared.entry.Uncached.{Uncached}
 use Rattle.pfc_log.specs.declared.entry.Uncached.TheVariants.{Volume}
 use Rattle.pfc_log.specs.declared.start.Start.{Start}
@@ -107,9 +111,20 @@ pub record IsUnasked (n : ℕ) (logs : List Section) (before after : ℕ × ℕ)
 abbrev pub AreDiskFailures : List Section → ℕ → ℕ → Type 0
 AreDiskFailures logs before after = RoseBy before (sum_by (λ section. charges section.log.first section.log.entries) logs) after
 
--- The report is caused: of files of this world, in blocks of k bytes, for what the schedule says. The counts of the clients' links were and are
+-- Block i of the log at place x was dropped behind these entries since the queue was full, with c jobs in it. That was the queue's
+-- capacity. The block waited at a moment at which c other blocks did, in all logs. Writers came to an end with c blocks or more.
+pub record IsDroppedFull (capacity : ℕ) (logs : List Section) (x i c : ℕ) (before : List Entry) : Type 0 where
+  pub capacity_is : c ≡ capacity
+  pub worked : c ≤ sum_by (λ section. times is_worked section.log.entries) logs
+  pub was : WasFull c x i before (map (λ section. section.log.entries) logs)
+
+-- each block that was dropped so has that cause
+abbrev pub AreDroppedFull : ℕ → List Section → Type 0
+AreDroppedFull capacity logs = (x p i c : ℕ) (d : Section) → x < length logs → slice_get (slice_index_or logs x d).log.entries p ≡ Some (Dropped i (cause.Full c)) → IsDroppedFull capacity logs x i c (take p (slice_index_or logs x d).log.entries)
+
+-- The report is caused: of files of this world, in blocks of k bytes, with a write queue of so many jobs, for what the schedule says. The counts of the clients' links were and are
 -- these, and the depot's count of faults was and is.
-pub record IsCausedReport (told : Bool) (files : Files) (k : ℕ) (lines : List Line) (before after : Spent) (faults faults' : ℕ) (report : ReportView) : Type 0 where
+pub record IsCausedReport (told : Bool) (files : Files) (k capacity : ℕ) (lines : List Line) (before after : Spent) (faults faults' : ℕ) (report : ReportView) : Type 0 where
   pub clients : AreTold lines report.clients
   pub permitted : All (λ c. ArePermitted told files (asked c.number lines) c.replies (before c.number).1 (after c.number).1) report.clients
   pub complete : AreComplete told files k report.logs
@@ -117,4 +132,5 @@ pub record IsCausedReport (told : Bool) (files : Files) (k : ℕ) (lines : List 
   pub served : All (λ c. IsServed k c.number c.replies report.logs) report.clients
   pub failed : All (λ c. AreItsFailures c.number (asked c.number lines) c.replies report.logs (before c.number).1 (after c.number).1) report.clients
   pub disk : AreDiskFailures report.logs faults faults'
+  pub full : AreDroppedFull capacity report.logs
   pub others : (n : ℕ) → asked n lines ≡ [] → IsUnasked n report.logs (before n) (after n)

@@ -14,6 +14,7 @@ use Rattle.pfc_core.specs.Marks.{Mark, same, sees}
 use Rattle.pfc_core.specs.Calls.{foreign}
 use Rattle.pfc_core.specs.View.{CoreView}
 use Rattle.pfc_core.proofs.Weights.{same_instance, unseen}
+use Rattle.pfc_core.specs.OpenJobs.{AreJobs}
 use Rattle.pfc_writer.specs.Queue.{QueueView}
 use Rattle.pfc_actor.specs.StageView.{Rest}
 use Rattle.pfc_actor.specs.Stages.{Shares, shares, no_shares}
@@ -113,10 +114,11 @@ stays_by c c2 home = record {
   first_is = ap (λ (v : CoreView). v.first) home;
 }
 
-core_stays : (k i : ℕ) (c c2 : CoreView) → StaysFor c c2 → sum_by (foreign c2) c2.out ≡ 0 → times is_there c2.entries ≡ times is_there c.entries → IsCore k i c → IsCore k i c2
-core_stays k i c c2 st own theres was = record {
+core_stays : (k i : ℕ) (c c2 : CoreView) → StaysFor c c2 → sum_by (foreign c2) c2.out ≡ 0 → AreJobs c2 → times is_there c2.entries ≡ times is_there c.entries → IsCore k i c → IsCore k i c2
+core_stays k i c c2 st own jobs theres was = record {
   instance_is = st.instance_is ∙ was.instance_is;
   own = own;
+  jobs = jobs;
   block_size_is = st.block_size_is ∙ was.block_size_is;
   start = rw (st.path_is, st.size_is, st.first_is) was.start;
   theres = theres ∙ was.theres;
@@ -259,9 +261,9 @@ cast_client k rest rest2 clients cores j a a2 s lj ea m tokens = record {
 
 -- a client steps on a core
 pub cast_on : (k : ℕ) (rest rest2 : (Mark → ℕ) → ℕ) (clients : List ClientView) (cores : List CoreView) (j i : ℕ) (a a2 : ClientView) (c c2 : CoreView) → IsCast k rest clients cores → j < length clients → i < length cores →
-    a ≡ get_or clients j a → c ≡ get_or cores i c → Step a.book a.line a.stage c a2.book a2.line a2.stage c2 → sum_by (foreign c2) c2.out ≡ 0 → times is_there c2.entries ≡ times is_there c.entries →
+    a ≡ get_or clients j a → c ≡ get_or cores i c → Step a.book a.line a.stage c a2.book a2.line a2.stage c2 → sum_by (foreign c2) c2.out ≡ 0 → AreJobs c2 → times is_there c2.entries ≡ times is_there c.entries →
     ((w : Mark → ℕ) → rest2 w ≡ rest w) → IsCast k rest2 (set clients j a2) (set cores i c2)
-cast_on k rest rest2 clients cores j i a a2 c c2 s lj li ea ec st own theres beside = record {
+cast_on k rest rest2 clients cores j i a a2 c c2 s lj li ea ec st own jobs theres beside = record {
   block_size = s.block_size;
   tokens = λ w.
       let t = s.tokens w in let m = st.tokens w in let l = sum_by-set (holds w) clients j a2 a lj in let r = sum_by-set (lists w) cores i c2 c li in
@@ -277,7 +279,7 @@ cast_on k rest rest2 clients cores j i a a2 c c2 s lj li ea ec st own theres bes
       subst (IsActor (set cores i c2)) (sym at)
       (other_actor cores i (get_or clients x d) c c2 li ec (ap (λ (v : CoreView). v.block_size) st.home) (st.others (get_or clients x d).book.number number) (s.actors x d lx2)));
   numbers = one_number clients j a a2 s.numbers lj ea st.number;
-  places = placed k cores i c c2 s.places li ec (core_stays k i c c2 (stays_by c c2 st.home) own theres (subst (IsCore k i) (sym ec) (s.places i c li)));
+  places = placed k cores i c c2 s.places li ec (core_stays k i c c2 (stays_by c c2 st.home) own jobs theres (subst (IsCore k i) (sym ec) (s.places i c li)));
   paths = one_path cores i c c2 s.paths li ec (ap (λ (v : CoreView). v.path) st.home) (ap (λ (v : CoreView). v.first) st.home);
   strangers = λ n none.
       let none2 = none_was n clients j a a2 lj ea st.number none in
@@ -287,14 +289,14 @@ cast_on k rest rest2 clients cores j i a a2 c c2 s lj li ea ec st own theres bes
 
 -- a core goes on by itself: what it lists more, more is held elsewhere
 pub cast_core : (k : ℕ) (rest rest2 : (Mark → ℕ) → ℕ) (clients : List ClientView) (cores : List CoreView) (i : ℕ) (c c2 : CoreView) → IsCast k rest clients cores → i < length cores → c ≡ get_or cores i c → StaysFor c c2 →
-    sum_by (foreign c2) c2.out ≡ 0 → times is_there c2.entries ≡ times is_there c.entries → ((n : ℕ) → tally n c2.entries ≡ tally n c.entries) →
+    sum_by (foreign c2) c2.out ≡ 0 → AreJobs c2 → times is_there c2.entries ≡ times is_there c.entries → ((n : ℕ) → tally n c2.entries ≡ tally n c.entries) →
     ((w : Mark → ℕ) → sum_by w c2.out + rest w ≡ sum_by w c.out + rest2 w) → IsCast k rest2 clients (set cores i c2)
-cast_core k rest rest2 clients cores i c c2 s li ec st own theres tallies tokens = record {
+cast_core k rest rest2 clients cores i c c2 s li ec st own jobs theres tallies tokens = record {
   block_size = s.block_size;
   tokens = λ w. let t = s.tokens w in let m = tokens w in let r = sum_by-set (lists w) cores i c2 c li in let at_i = ap (lists w) ec in omega (arith, t, m, r, at_i);
   actors = λ x d lx. other_actor cores i (get_or clients x d) c c2 li ec st.block_size_is (tallies (get_or clients x d).book.number) (s.actors x d lx);
   numbers = s.numbers;
-  places = placed k cores i c c2 s.places li ec (core_stays k i c c2 st own theres (subst (IsCore k i) (sym ec) (s.places i c li)));
+  places = placed k cores i c c2 s.places li ec (core_stays k i c c2 st own jobs theres (subst (IsCore k i) (sym ec) (s.places i c li)));
   paths = one_path cores i c c2 s.paths li ec st.path_is st.first_is;
   strangers = λ n none. other_log cores i n c c2 li ec (tallies n) (s.strangers n none);
 }

@@ -1,9 +1,9 @@
 -- Volumes go home, the last first.
-use Rattle.std.proofs.Common.{◌≡◌, ◌≢◌, ⊎_elim, inl, ℕ, ◌+◌, ◌<◌, ◌≤◌, List, [], ◌∷◌, ◌++◌, length, get_or, sum_by, refl, subst, sym, ap, ◌∙◌, arith, append_assoc}
+use Rattle.std.proofs.Common.{◌≡◌, ◌≢◌, ⊎_elim, inl, ℕ, ◌+◌, ◌<◌, ◌≤◌, List, [], ◌∷◌, ◌++◌, length, get_or, refl, subst, sym, ap, ◌∙◌, arith, append_assoc}
 use Rattle.std.specs.Prelude.{Option, Some, None, Contains}
 use Rattle.std.proofs.lemmas.List.{append-nil, length_push, length-append, get_or_append_left}
 use Rattle.std.proofs.lemmas.List.Sums.{sum_by-cons}
-use Rattle.pfc_world.specs.Counts.{RoseBy, last_count}
+use Rattle.pfc_world.specs.Counts.{RoseBy}
 use Rattle.pfc_log.specs.Charges.{charges}
 use Rattle.pfc_core.specs.View.{CoreView}
 use Rattle.pfc_actor.specs.Backings.{Stand, Bare, Taken, Open, Lent, BackingView, DepotView, Covers, HasCovered, IsBackingOf, IsOutAs, PutsBack, ReturnsVolume, StaysOut, path_in, broken_in}

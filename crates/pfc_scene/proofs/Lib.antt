@@ -1,7 +1,16 @@
 pub mod Totals
 pub mod Casts
+pub mod Weighing
+pub mod Growing
+pub mod QueuedCores
+pub mod QueuedSteps
+pub mod QueuedWorks
+pub mod QueuedLoans
 pub mod Backed
 pub mod Moving
+pub mod Queued
+pub mod Fulls
+pub mod Tasks
 pub mod Writing
 pub mod Scenes
 pub mod Starting

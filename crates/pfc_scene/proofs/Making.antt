@@ -22,6 +22,7 @@ use Rattle.pfc_core.specs.Marks.{Mark}
 use Rattle.pfc_core.specs.Calls.{foreign}
 use Rattle.pfc_core.specs.New.{IsNew, IsNewUncached}
 use Rattle.pfc_core.specs.View.{CoreView}
+use Rattle.pfc_core.specs.OpenJobs.{AreJobs, astray, job_of, unsettled}
 use Rattle.pfc_report.specs.Caused.{StartsFor}
 use Rattle.pfc_actor.specs.Steps.{IsTallied, IsWithin}
 use Rattle.pfc_actor.specs.Stages.{shares}
@@ -68,6 +69,14 @@ pub new_unpaid : {E : Type 0} (r : Result CoreView E) (i : ℕ) (path : List ℕ
 new_unpaid (Ok c) i path size k why p n cause new = ap start_charge new.start ∙ unpaid p n why (sym cause)
 new_unpaid (Err e) i path size k why p n cause new = tt
 
+-- nothing of it is out
+pub no_jobs : (c : CoreView) → c.out ≡ [] → AreJobs c
+no_jobs c out = record {
+  here = ap (sum_by (astray c)) out;
+  once = λ i. let none = ap (sum_by (job_of i)) out in omega (arith, none);
+  waits = λ n low. let none = ap (sum_by (unsettled c)) out in omega (arith, none);
+}
+
 pub new_cached : (i : ℕ) (path : List ℕ) (size k : ℕ) (c : CoreView) → IsNew i path size k (replicate (count_of size k) false) c → cause_of path (count_of size k) ≡ None → IsCore k i c
 new_cached i path size k c new cause = let sizes = ap (λ (n : ℕ). count_of n k) new.size_is in
     let none : cause_of c.path (count_of c.size k) ≡ None = ap (λ (p : List ℕ). cause_of p (count_of c.size k)) new.path_is ∙ ap (cause_of path) sizes ∙ cause in
@@ -75,6 +84,7 @@ new_cached i path size k c new cause = let sizes = ap (λ (n : ℕ). count_of n 
     record {
       instance_is = new.instance_is;
       own = ap (sum_by (foreign c)) new.out;
+      jobs = no_jobs c new.out;
       block_size_is = new.block_size_is;
       start = subst (λ (o : Option Uncached). StartsFor o (count_of c.size k) c.first) (sym none) (subst (StartsFor None (count_of c.size k)) (sym new.start) long);
       theres = ap (times is_there) new.entries;
@@ -86,6 +96,7 @@ new_uncached i path size k why c new cause = let sizes = ap (λ (n : ℕ). count
     record {
       instance_is = new.instance_is;
       own = ap (sum_by (foreign c)) new.out;
+      jobs = no_jobs c new.out;
       block_size_is = new.block_size_is;
       start = subst (λ (o : Option Uncached). StartsFor o (count_of c.size k) c.first) (sym some) new.start;
       theres = ap (times is_there) new.entries;
@@ -145,6 +156,7 @@ renewed_core k i c c2 was r first = let sizes = ap (λ (n : ℕ). count_of n k) 
     record {
       instance_is = r.instance_is ∙ was.instance_is;
       own = ap (sum_by (foreign c2)) r.out_is;
+      jobs = no_jobs c2 r.out_is;
       block_size_is = r.block_size_is ∙ was.block_size_is;
       start = subst (λ (o : Option Uncached). StartsFor o (count_of c2.size k) c2.first) (sym none) (subst (λ (n : ℕ). StartsFor None n c2.first) (sym sizes) first);
       theres = ap (times is_there) r.entries_are;

@@ -1,6 +1,6 @@
 -- How a core gets its volume and its store: the scene where a core is made, a volume is taken, opened, lost or put home.
 use Rattle.std.proofs.Common.{◌≡◌, ◌⊎◌, inl, inr, ⊎_elim, ℕ, ◌+◌, ◌<◌, ◌≤◌, List, [], ◌∷◌, ◌++◌, length, get_or, set, refl, subst, sym, ap, ◌∙◌, arith}
-use Rattle.std.specs.Prelude.{Option, Some, None, Contains, Result, Ok, Err, OnOk, OnErr, IfErr}
+use Rattle.std.specs.Prelude.{Option, Some, None, Contains, Result, Ok, Err, OnOk, OnErr, IfErr, IfSome}
 use Rattle.std.proofs.lemmas.List.{set-get_or, length_push, get_or_default, get_or_append_left, get_or-set_same}
 use Rattle.std.proofs.lemmas.List.Sums.{sum_by_push, sum_by-set}
 use Rattle.pfc_base.specs.Block.{count_of}
@@ -16,10 +16,11 @@ use Rattle.pfc_core.specs.Marks.{Mark}
 use Rattle.pfc_core.specs.View.{CoreView}
 use Rattle.pfc_report.specs.Caused.{StartsFor}
 use Rattle.pfc_actor.specs.declared.backing.Standing.TheVariants as standing
-use Rattle.pfc_actor.specs.Backings.{BackingView, Stand, Bare, Taken, Open, Lent, bare, path_in, broken_in, standing_of, Covers, StandsFor, HasCovered, IsBackingOf, IsUnlent, IsOpen, IsTaken, Opens, OpensBy, Later, DepotView, TakesVolume, ReturnsVolume, PutsBack}
+use Rattle.pfc_actor.specs.Backings.{BackingView, Stand, Bare, Taken, Open, Lent, bare, path_in, written_in, broken_in, standing_of, Covers, StandsFor, HasCovered, IsBackingOf, IsUnlent, IsOpen, IsTaken, Opens, OpensBy, Later, DepotView, TakesVolume, ReturnsVolume, PutsBack}
 use Rattle.pfc_scene.specs.Scenes.{SceneView, IsScene, IsCore, IsUnused, IsAlone, IsLentBy, AreBackings, Makes, Renews, Restarts, CoversFault, Moves, Owes, Plays, beside, lent_of, settled, settled_in}
 use Rattle.pfc_scene.proofs.Casts.{below_or, at_end, cast_beside, no_core}
 use Rattle.pfc_scene.proofs.Backed.{bare_backing, backing_at, backed_core, backed_set, settled_core, settled_set, lent_set}
+use Rattle.pfc_scene.proofs.Queued.{backing_queued, made_queued, renewed_queued}
 use Rattle.pfc_scene.proofs.Making.{cached_cause, few_blocks, cached_unpaid, unused_charges, made, renewed}
 use Rattle.pfc_scene.proofs.Volumes.{unlent_path, unlent_weight, unlent_settled, unlent_covers, has_covered, covers_less, covers_later, fault_covers, rose_less, rose_next, add_later, lent_push, lent_home}
 
@@ -52,6 +53,7 @@ made_scene v path cores backings beside_is s m =
       cast = cast_beside k (λ w. beside w v) (λ w. beside w (record v { backings = v.backings ++ bare ∷ [] })) v.clients (v.cores ++ c ∷ []) (made k (λ w. beside w v) v.clients v.cores c s.cast m.right m.entries m.out alone)
           (λ w. let more = sum_by_push (lent_of w) v.backings bare in omega (arith, more));
       backed = backed_push v.cores v.backings c s.backed;
+      queued = made_queued v.capacity v.clients v.cores v.backings v.writers v.jobs c s.queued m.entries m.out;
     } in
     subst (λ (bs : List BackingView). IsScene (record v { cores = cores; backings = bs })) (sym beside_is)
     (subst (λ (cs : List CoreView). IsScene (record v { cores = cs; backings = v.backings ++ bare ∷ [] })) (sym m.behind) scene)
@@ -96,6 +98,13 @@ at_place backings i li = get_or_default backings i bare (get_or backings i bare)
 
 pub unlent_at : (backings : List BackingView) (i : ℕ) (b : BackingView) → b ≡ get_or backings i b → ((e : BackingView) → IsUnlent (get_or backings i e).stand) → IsUnlent b.stand
 unlent_at backings i b eb unlent = subst (λ (x : BackingView). IsUnlent x.stand) (sym eb) (unlent b)
+
+-- no loan wrote anything there
+unlent_written : (s : Stand) (P : ℕ → Type 0) → IsUnlent s → IfSome (written_in s) P
+unlent_written Bare P h = absurd h
+unlent_written (Taken path size) P h = tt
+unlent_written (Open path size k) P h = tt
+unlent_written (Lent mark done) P h = absurd h
 
 -- ---- a volume is taken
 
@@ -142,6 +151,8 @@ stood_scene v i b2 s li none unlent backs = let same = s.backed.long in let lb :
   cast = cast_beside v.block_size (λ w. beside w v) (λ w. beside w (record v { backings = set v.backings i b2 })) v.clients v.cores s.cast
       (λ w. beside_same w v i (get_or v.backings i bare) b2 lb (at_place v.backings i lb) (ap (λ (x : Stand). lent_of w (record bare { stand = x })) (none bare)) (unlent_weight w b2.stand unlent));
   backed = backed_at v.cores v.backings i b2 s.backed li backs;
+  queued = let b = get_or v.backings i bare in
+      backing_queued v.capacity v.clients v.cores v.backings v.writers v.jobs i b b2 s.queued lb (at_place v.backings i lb) (unlent_written b2.stand (λ block. written_in b.stand ≡ Some block) unlent);
 }
 
 pub stood_plays : (v : SceneView) (d d2 : DepotView) (i : ℕ) (b2 : BackingView) → IsScene v → i < length v.cores → IsUnlent b2.stand → d.faults ≤ d2.faults → Plays v d (record v { backings = set v.backings i b2 }) d2
@@ -169,6 +180,7 @@ pub lost_scene : (v : SceneView) (i : ℕ) (c c2 : CoreView) (cores : List CoreV
 lost_scene v i c c2 cores is s li ec none r first = subst (λ (cs : List CoreView). IsScene (record v { cores = cs })) (sym is) (record {
   cast = renewed v.block_size (λ w. beside w v) v.clients v.cores i c c2 s.cast li ec r (subst (StartsFor None (count_of c.size v.block_size)) (sym first) refl);
   backed = backed_core v.cores v.backings i c2 s.backed li (λ e. bare_backing c2 (get_or v.backings i e) (none e));
+  queued = renewed_queued v.capacity v.clients v.cores v.backings v.writers v.jobs i c c2 s.queued li ec r.entries_were r.entries_are r.out_was r.out_is;
 })
 
 pub lost_owes : (v : SceneView) (i : ℕ) (c c2 : CoreView) (cores : List CoreView) → cores ≡ set v.cores i c2 → IsScene v → i < length v.cores → c ≡ get_or v.cores i c → Renews c c2 → c2.first ≡ start.Uncached Volume → Owes v (record v { cores = cores })
@@ -265,6 +277,8 @@ opened_scene r v i b b2 s li eb unlent ok err before unspent later =
           (λ w. beside_same w v i b b2 lb eb (unlent_weight w b.stand unlent) (unlent_weight w b2.stand (reopens_unlent v.block_size b.stand b2.stand unlent re)));
       backed = backed_at v.cores v.backings i b2 s.backed li (λ e. let c = get_or v.cores i e in
           reopened_backs v.block_size c b b2 (s.cast.places i e li).block_size_is unlent re before unspent later (subst (IsBackingOf c) (sym eb) (s.backed.each i e b li)));
+      queued = backing_queued v.capacity v.clients v.cores v.backings v.writers v.jobs i b b2 s.queued lb eb
+          (unlent_written b2.stand (λ block. written_in b.stand ≡ Some block) (reopens_unlent v.block_size b.stand b2.stand unlent re));
     }
 
 pub opened_moves : {T : Type 0} (r : Result T Refusal) (v : SceneView) (i : ℕ) (b b2 : BackingView) → IsScene v → i < length v.cores → b ≡ get_or v.backings i b → IsUnlent b.stand →
@@ -316,7 +330,7 @@ restarts_stands : (s : Stand) (c c2 : CoreView) → Renews c c2 → IsCached c2.
 restarts_stands Bare c c2 r cached st = tt
 restarts_stands (Taken path size) c c2 r cached st = (st.0 ∙ sym r.path_is, st.1 ∙ sym r.size_is, cached)
 restarts_stands (Open path size k) c c2 r cached st = ((st.0.0 ∙ sym r.path_is, st.0.1 ∙ sym r.size_is, st.0.2 ∙ sym r.block_size_is), cached)
-restarts_stands (Lent mark done) c c2 r cached st = ((st.0.0 ∙ sym r.path_is, st.0.1 ∙ sym r.size_is, st.0.2 ∙ sym r.block_size_is), cached)
+restarts_stands (Lent mark done) c c2 r cached st = ((st.0.0 ∙ sym r.path_is, st.0.1 ∙ sym r.size_is, st.0.2 ∙ sym r.block_size_is), cached, st.2)
 
 restarts_charges : (k : ℕ) (c c2 : CoreView) → Restarts k c c2 → charges c2.first c2.entries ≡ charges c.first c.entries
 restarts_charges k c c2 re = let r = re.renews in
@@ -332,6 +346,7 @@ restarted_scene v i c c2 cores is s li ec re =
         stands = restarts_stands b.stand c c2 re.renews re.cached was.stands;
         covered = subst (λ (n : ℕ). HasCovered b.stand (n + broken_in b.stand + b.unspent) b) (sym (restarts_charges c.block_size c c2 re)) was.covered;
       });
+      queued = let r = re.renews in renewed_queued v.capacity v.clients v.cores v.backings v.writers v.jobs i c c2 s.queued li ec r.entries_were r.entries_are r.out_was r.out_is;
     })
 
 pub restarted_moves : (v : SceneView) (i : ℕ) (c c2 : CoreView) (cores : List CoreView) → cores ≡ set v.cores i c2 → IsScene v → i < length v.cores → c ≡ get_or v.cores i c → Restarts c.block_size c c2 → Moves v (record v { cores = cores })
@@ -362,6 +377,7 @@ home_scene v i b b2 is s li eb unlent = let same = s.backed.long in let lb : i <
     subst (λ (x : BackingView). IsScene (record v { backings = set v.backings i x })) (sym is) (record {
       cast = cast_beside v.block_size (λ w. beside w v) (λ w. beside w (record v { backings = set v.backings i bare })) v.clients v.cores s.cast (λ w. beside_same w v i b bare lb eb (unlent_weight w b.stand unlent) refl);
       backed = backed_at v.cores v.backings i bare s.backed li (λ e. bare_backing (get_or v.cores i e) bare refl);
+      queued = backing_queued v.capacity v.clients v.cores v.backings v.writers v.jobs i b bare s.queued lb eb tt;
     })
 
 pub home_lent : (v : SceneView) (d d2 : DepotView) (i : ℕ) (b b2 : BackingView) → b2 ≡ bare → IsScene v → i < length v.cores → b ≡ get_or v.backings i b → IsUnlent b.stand → PutsBack (path_in b.stand) b d d2 → IsLentBy d v.backings →

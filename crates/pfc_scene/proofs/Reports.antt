@@ -1,6 +1,6 @@
 -- The report of a scene at its end.
-use Rattle.std.proofs.Common.{◌≡◌, ℕ, zero, suc, ◌+◌, ◌<◌, List, [], ◌∷◌, ◌++◌, length, map, get_or, sum_by, refl, subst, sym, ap, ◌∙◌, arith, Bool, true, false, if◌then◌else◌, ◌==◌, ne_eqb, eq-eqb}
-use Rattle.std.specs.Prelude.{All, filter}
+use Rattle.std.proofs.Common.{◌≡◌, ℕ, zero, suc, ◌+◌, ◌<◌, List, [], ◌∷◌, ◌++◌, length, map, take, get_or, sum_by, refl, subst, sym, ap, ◌∙◌, arith, Bool, true, false, if◌then◌else◌, ◌==◌, ne_eqb, eq-eqb}
+use Rattle.std.specs.Prelude.{All, filter, slice_get, Option, Some}
 use Rattle.std.specs.List.{range_with_len}
 use Rattle.std.proofs.lemmas.Bool.Decides.{nat_tests}
 use Rattle.std.proofs.lemmas.List.{length-map}
@@ -13,17 +13,24 @@ use Rattle.pfc_world.specs.Counts.{RoseBy}
 use Rattle.pfc_client.specs.Told.{stats, lost}
 use Rattle.pfc_client.specs.Permitted.{ArePermitted}
 use Rattle.pfc_log.specs.declared.start.Start.{Start}
+use Rattle.pfc_log.specs.declared.start.Start.TheVariants.{Stored}
 use Rattle.pfc_log.specs.Charges.{charges, is_there}
 use Rattle.pfc_log.specs.Lawful.{IsComplete}
-use Rattle.pfc_log.specs.Views.{times}
+use Rattle.pfc_log.specs.Views.{Away, Place, bound, place, times}
+use Rattle.pfc_log.specs.declared.entry.DropCause.TheVariants as cause
+use Rattle.pfc_log.specs.declared.entry.Entry.{Entry}
+use Rattle.pfc_log.specs.declared.entry.Entry.TheVariants.{Dropped}
 use Rattle.pfc_log.specs.Tallies.{Tally, tally, nothing, together}
 use Rattle.pfc_core.specs.Marks.{Mark}
 use Rattle.pfc_core.specs.View.{CoreView}
+use Rattle.pfc_writer.specs.Writer.{Task}
+use Rattle.pfc_log.specs.Waiting.{WasFull, is_waiting, is_worked, waiting}
 use Rattle.pfc_report.specs.declared.report.Told.{Told}
 use Rattle.pfc_report.specs.declared.report.Section.{Section}
 use Rattle.pfc_report.specs.Schedule.{Line, asked, asked_clients, is_asked}
 use Rattle.pfc_report.specs.Spent.{spent_by, nothing_spent}
-use Rattle.pfc_report.specs.Caused.{over, tally_in, StartsFor, StartsRight, FitBlocks, AreItsCalls, IsServed, AreItsFailures, IsCausedReport}
+use Rattle.pfc_report.specs.Caused.{over, tally_in, StartsFor, StartsRight, FitBlocks, AreItsCalls, IsServed, AreItsFailures, AreDroppedFull, IsCausedReport}
+use Rattle.pfc_actor.specs.Backings.{BackingView}
 use Rattle.pfc_actor.specs.StageView.{Rest}
 use Rattle.pfc_actor.specs.Stages.{shares, no_shares}
 use Rattle.pfc_actor.specs.Steps.{IsTallied, IsWithin}
@@ -31,9 +38,12 @@ use Rattle.pfc_actor.specs.Clients.{ClientView, IsDone}
 use Rattle.pfc_base.specs.Block.{count_of}
 use Rattle.pfc_log.specs.Uncaching.{cause_of}
 use Rattle.pfc_log.specs.Lawful.{IsCached}
-use Rattle.pfc_scene.specs.Scenes.{IsCast, AreUnique, who, total, all_charges}
+use Rattle.pfc_scene.specs.Queues.{AreQueued, logs_of, progress}
+use Rattle.pfc_scene.specs.Scenes.{IsCast, IsCore, AreUnique, who, total, all_charges}
 use Rattle.pfc_scene.specs.Ends.{IsSection, AreSections, row_of, told_of, asked_by}
 use Rattle.pfc_scene.proofs.Casts.{nobody, no_core}
+use Rattle.pfc_scene.proofs.Weighing.{sum_rows}
+use Rattle.pfc_scene.proofs.Fulls.{sum_map}
 use Rattle.pfc_scene.proofs.Totals.{total_sum}
 
 -- ---- sections are what the cores were
@@ -75,6 +85,46 @@ charges_are told files (x ∷ logs) (c ∷ cores) s =
     let rest = charges_are told files logs cores s.1 in
     let same : charges x.log.first x.log.entries ≡ charges c.first c.entries = rw (s.0.first_is, s.0.entries_are) refl in
     omega (arith, sum_by-cons (λ (y : Section). charges y.log.first y.log.entries) x logs, sum_by-cons (λ (y : CoreView). charges y.first y.entries) c cores, rest, same)
+
+-- ---- blocks that were dropped since the queue was full
+
+logs_are : (told : Bool) (files : Files) (logs : List Section) (cores : List CoreView) → AreSections told files logs cores → map (λ (x : Section). x.log.entries) logs ≡ logs_of cores
+logs_are told files [] [] s = refl
+logs_are told files [] (c ∷ cores) s = absurd s
+logs_are told files (x ∷ logs) [] s = absurd s
+logs_are told files (x ∷ logs) (c ∷ cores) s = ap (λ es. es ∷ map (λ (y : Section). y.log.entries) logs) s.0.entries_are ∙ ap (λ l. c.entries ∷ l) (logs_are told files logs cores s.1)
+
+none_wait : (n : ℕ) (es : List Entry) → ((i : ℕ) → place i es ≡ Away) → waiting n es ≡ 0
+none_wait zero es away = refl
+none_wait (suc n) es away = let rest = none_wait n es away in let one = ap {B = ℕ} (λ (p : Place). if is_waiting p then 1 else 0) (away n) in omega (arith, rest, one)
+
+-- no job is left
+ended_progress : (k i : ℕ) (c : CoreView) → IsCore k i c → IsComplete c.first c.entries → progress c ≡ times is_worked c.entries
+ended_progress k i c is complete = let jobs = is.jobs.waits (bound c.first) (omega arith) in let none = none_wait (bound c.first) c.entries complete.empty in omega (arith, jobs, none)
+
+any_section : Section
+any_section = record { path = []; log = record { first = Stored []; entries = []; room = 0 } }
+
+worked_are : (told : Bool) (files : Files) (k : ℕ) (logs : List Section) (cores : List CoreView) → AreSections told files logs cores → ((i : ℕ) (d : CoreView) → i < length cores → IsCore k i (get_or cores i d)) →
+    sum_by (λ (x : Section). times is_worked x.log.entries) logs ≡ sum_by progress cores
+worked_are told files k logs cores s places =
+    let long = sections_long told files logs cores s in
+    let same = sum_rows progress (λ (c : CoreView). times is_worked c.entries) cores no_core (λ i li. let x = section_at told files logs cores i any_section no_core s (omega (arith, li, long)) in
+    ended_progress k i (get_or cores i no_core) (places i no_core li) x.complete) in
+    sym (sum_map (times is_worked) (λ (x : Section). x.log.entries) logs) ∙ ap (sum_by (times is_worked)) (logs_are told files logs cores s) ∙ sum_map (times is_worked) (λ (c : CoreView). c.entries) cores ∙ sym same
+
+report_queued : (told : Bool) (files : Files) (k capacity : ℕ) (clients : List ClientView) (cores : List CoreView) (backings : List BackingView) (writers : List (Option Task)) (queue : List Mark) (logs : List Section) →
+    AreQueued capacity clients cores backings writers queue → ((i : ℕ) (d : CoreView) → i < length cores → IsCore k i (get_or cores i d)) → AreSections told files logs cores → AreDroppedFull capacity logs
+report_queued told files k capacity clients cores backings writers queue logs q places s x p i c d lx at =
+    let long = sections_long told files logs cores s in
+    let log = (section_at told files logs cores x d no_core s lx).entries_are in
+    let was = q.drops x p i c no_core (omega (arith, lx, long)) (subst (λ es. slice_get es p ≡ Some (Dropped i (cause.Full c))) log at) in
+    let all = worked_are told files k logs cores s places in let most = was.worked in record {
+      capacity_is = was.capacity_is;
+      worked = omega (arith, all, most);
+      was = subst (λ es. WasFull c x i (take p es) (map (λ (y : Section). y.log.entries) logs)) (sym log)
+          (subst (WasFull c x i (take p (get_or cores x no_core).entries)) (sym (logs_are told files logs cores s)) was.was);
+    }
 
 -- ---- rows
 
@@ -223,10 +273,10 @@ no_clients lines clients n is none j d lj =
 section_all : (told : Bool) (files : Files) (P : Section → Type 0) (logs : List Section) (cores : List CoreView) → AreSections told files logs cores → ((i : ℕ) (d : Section) → i < length logs → i < length cores → IsSection told files (get_or logs i d) (get_or cores i no_core) → P (get_or logs i d)) → All P logs
 section_all told files P logs cores s h i d l = let long = sections_long told files logs cores s in h i d l (omega (arith, l, long)) (section_at told files logs cores i d no_core s l)
 
-pub caused : (told : Bool) (files : Files) (k : ℕ) (rest : (Mark → ℕ) → ℕ) (lines : List Line) (clients : List ClientView) (cores : List CoreView) (logs : List Section) (f g : ℕ) → IsCast k rest clients cores →
-    ((j : ℕ) (d : ClientView) → j < length clients → IsDone told files (get_or clients j d).book (get_or clients j d).line (get_or clients j d).stage) → map who clients ≡ asked_by lines → AreSections told files logs cores → RoseBy f (all_charges cores) g →
-    IsCausedReport told files k lines nothing_spent (spent_by (map row_of clients)) f g (record { clients = map told_of clients; logs = logs })
-caused told files k rest lines clients cores logs f g s done is sections paid =
+pub caused : (told : Bool) (files : Files) (k capacity : ℕ) (rest : (Mark → ℕ) → ℕ) (lines : List Line) (clients : List ClientView) (cores : List CoreView) (backings : List BackingView) (writers : List (Option Task)) (queue : List Mark) (logs : List Section) (f g : ℕ) →
+    IsCast k rest clients cores → AreQueued capacity clients cores backings writers queue → ((j : ℕ) (d : ClientView) → j < length clients → IsDone told files (get_or clients j d).book (get_or clients j d).line (get_or clients j d).stage) → map who clients ≡ asked_by lines → AreSections told files logs cores → RoseBy f (all_charges cores) g →
+    IsCausedReport told files k capacity lines nothing_spent (spent_by (map row_of clients)) f g (record { clients = map told_of clients; logs = logs })
+caused told files k capacity rest lines clients cores backings writers queue logs f g s queued done is sections paid =
     let spent : (j : ℕ) → j < length clients → spent_by (map row_of clients) (get_or clients j nobody).book.number ≡ ((get_or clients j nobody).line.calls, (get_or clients j nobody).line.faults) =
     λ j l. row_at clients j nobody (λ i d m. (done i d m).number) s.numbers l in
     let ended : (j : ℕ) → j < length clients → Ended told files lines logs cores (get_or clients j nobody) = λ j l. record {
@@ -262,6 +312,7 @@ caused told files k rest lines clients cores logs f g s done is sections paid =
       failed = all_map (λ (t : Told). AreItsFailures t.number (asked t.number lines) t.replies logs (nothing_spent t.number).1 (spent_by (map row_of clients) t.number).1) told_of clients nobody
           (λ j l. subst (λ (x : ℕ × ℕ). AreItsFailures (get_or clients j nobody).book.number (asked (get_or clients j nobody).book.number lines) (get_or clients j nobody).book.replies logs 0 x.1) (sym (spent j l)) (failed_part told files lines logs cores (get_or clients j nobody) (ended j l)));
       disk = subst (λ m. RoseBy f m g) (sym (charges_are told files logs cores sections)) paid;
+      full = report_queued told files k capacity clients cores backings writers queue logs queued s.places sections;
       others = λ n none. record {
         spent = no_row clients n (λ i d l. subst (λ m. (n == m) ≡ false) (sym (done i d l).number) (no_clients lines clients n is none i d l));
         logged = section_all told files (λ x. tally_in n x ≡ nothing) logs cores sections (λ i d l m x. ap (tally n) x.entries_are ∙ s.strangers n (no_clients lines clients n is none) i no_core m);

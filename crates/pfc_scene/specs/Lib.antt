@@ -1,2 +1,3 @@
+pub mod Queues
 pub mod Scenes
 pub mod Ends

@@ -13,13 +13,15 @@ use Rattle.pfc_log.specs.Views.{times}
 use Rattle.pfc_core.specs.Marks.{Mark}
 use Rattle.pfc_core.specs.Calls.{foreign}
 use Rattle.pfc_core.specs.View.{CoreView}
-use Rattle.pfc_writer.specs.Writer.{work_weight}
+use Rattle.pfc_core.specs.OpenJobs.{AreJobs}
+use Rattle.pfc_writer.specs.Writer.{Task, work_weight}
 use Rattle.pfc_report.specs.Caused.{StartsFor}
 use Rattle.pfc_actor.specs.Backings.{BackingView, Stand, path_in, loan_weight, Covers, IsBackingOf, DepotView, IsOutAs}
 use Rattle.pfc_actor.specs.Backings as bk
 use Rattle.pfc_actor.specs.Stages.{shares}
 use Rattle.pfc_actor.specs.Steps.{IsTallied, IsWithin}
 use Rattle.pfc_actor.specs.Clients.{ClientView, holds}
+use Rattle.pfc_scene.specs.Queues.{AreQueued}
 
 -- The clients; the cores, and what stands beside each; the job that each writer is at, the jobs that wait, and the most of
 -- them; the block size.
@@ -27,7 +29,7 @@ pub record SceneView : Type 0 where
   pub clients : List ClientView
   pub cores : List CoreView
   pub backings : List BackingView
-  pub writers : List (Option Mark)
+  pub writers : List (Option Task)
   pub jobs : List Mark
   pub capacity : ℕ
   pub block_size : ℕ
@@ -48,11 +50,12 @@ abbrev pub total : ℕ → List CoreView → Tally
 total n [] = nothing
 total n (c ∷ cs) = together (tally n c.entries) (total n cs)
 
--- the core at place i: its number is its place, all that it gave out is its own, its log starts as that of such a file, and no
--- block was there as it was to be written
+-- the core at place i: its number is its place, all that it gave out is its own, with jobs of blocks in memory, its log starts as
+-- that of such a file, and no block was there as it was to be written
 pub record IsCore (k i : ℕ) (c : CoreView) : Type 0 where
   pub instance_is : c.instance ≡ i
   pub own : sum_by (foreign c) c.out ≡ 0
+  pub jobs : AreJobs c
   pub block_size_is : c.block_size ≡ k
   pub start : StartsFor (cause_of c.path (count_of c.size k)) (count_of c.size k) c.first
   pub theres : times is_there c.entries ≡ 0
@@ -93,6 +96,7 @@ pub record AreBackings (cores : List CoreView) (backings : List BackingView) : T
 pub record IsScene (v : SceneView) : Type 0 where
   pub cast : IsCast v.block_size (λ w. beside w v) v.clients v.cores
   pub backed : AreBackings v.cores v.backings
+  pub queued : AreQueued v.capacity v.clients v.cores v.backings v.writers v.jobs
 
 -- whose a client is and what it was asked
 abbrev pub who : ClientView → ℕ × List (List ℕ)

@@ -1,6 +1,7 @@
 // How clients read from disk: the store of a file is lent, read by, and given back.
 ghost use Rattle.std.specs.Prelude.{◌≡◌, ◌<◌, length, slice_index_or, IsTrue, false, true};
 ghost use Rattle.pfc_core.specs.View.{CoreView};
+ghost use Rattle.pfc_actor.specs.Backings.{BackingView, IsOpen};
 ghost use Rattle.pfc_actor.specs.Clients.{ClientView};
 ghost use Rattle.pfc_actor.specs.Stages.{Here};
 ghost use Rattle.pfc_scene.specs.Scenes.{Moves};
@@ -31,6 +32,8 @@ impl<W: World, O: Origin<W>, P: Depot<W>> Scene<W, O, P> {
         ensures here { (e : CoreView) → (slice_index_or self.new.cores i e).instance ≡ i }
         ensures cores { length self.new.cores ≡ length self.old.cores }
         ensures jobs { (self.new.jobs ≡ self.old.jobs) × (self.new.writers ≡ self.old.writers) }
+        ensures back { IsTrue result → (e : BackingView) → IsOpen (slice_index_or self.new.backings i e).stand }
+        ensures backings { length self.new.backings ≡ length self.old.backings }
     {
         let given = self.backings[i].give(&mut self.cores[i]);
         self.cores[i].own();

@@ -6,7 +6,7 @@ ghost use Rattle.pfc_report.specs.Spent.{rows_of, spent_by, nothing_spent};
 ghost use Rattle.pfc_report.specs.Caused.{IsCausedReport};
 ghost use Rattle.pfc_base.specs.Cinfo.{IsBlockSize};
 ghost use Rattle.pfc_world.specs.Counts.{RoseBy};
-ghost use Rattle.pfc_core.specs.Marks.{Mark};
+ghost use Rattle.pfc_writer.specs.Writer.{Task};
 ghost use Rattle.pfc_actor.specs.Backings.{depot_of, IsSoundAtHome};
 ghost use Rattle.pfc_actor.specs.Clients.{ClientView, IsDone};
 ghost use Rattle.pfc_scene.specs.Scenes.{SceneView, IsScene, IsLentBy, settled, who, number_of};
@@ -105,6 +105,7 @@ fn play_step<W: World, O: Origin<W>, P: Depot<W>, K: Clock>(
     ensures asked { OnOk result (map who scene.new.clients ≡ map (all_asked (line_of step.entry ∷ [])) (map who scene.old.clients)) }
     ensures numbers { map number_of scene.new.clients ≡ map number_of scene.old.clients }
     ensures block_size { scene.new.block_size ≡ scene.old.block_size }
+    ensures capacity { scene.new.capacity ≡ scene.old.capacity }
     ensures length { length scene.new.clients ≡ length scene.old.clients }
 {
     match step {
@@ -138,6 +139,7 @@ fn play<W: World, O: Origin<W>, P: Depot<W>, K: Clock>(
     ensures asked { OnOk result (map who scene.new.clients ≡ map (all_asked plan.now) (map who scene.old.clients)) }
     ensures numbers { map number_of scene.new.clients ≡ map number_of scene.old.clients }
     ensures block_size { scene.new.block_size ≡ scene.old.block_size }
+    ensures capacity { scene.new.capacity ≡ scene.old.capacity }
     ensures length { length scene.new.clients ≡ length scene.old.clients }
 {
     for step in plan.steps() {
@@ -166,7 +168,7 @@ impl<W: World, O: Origin<W>, P: Depot<W>> Scene<W, O, P> {
         ensures home { P.out depot.new ≡ [] }
         ensures unlisted { P.unlisted depot.new ≡ P.unlisted depot.old }
         ensures numbers { map O.number result.0.items ≡ map number_of self.clients }
-        ensures caused { (lines : List Line) (f : ℕ) → map who self.clients ≡ asked_by lines → RoseBy f (settled self.cores self.backings) (P.faults depot.old) → IfOk result.1 (IsCausedReport W.told W.files self.block_size lines nothing_spent (spent_by (rows_of O.number O.calls O.faults result.0.items)) f (P.faults depot.new)) }
+        ensures caused { (lines : List Line) (f : ℕ) → map who self.clients ≡ asked_by lines → RoseBy f (settled self.cores self.backings) (P.faults depot.old) → IfOk result.1 (IsCausedReport W.told W.files self.block_size self.capacity lines nothing_spent (spent_by (rows_of O.number O.calls O.faults result.0.items)) f (P.faults depot.new)) }
     {
         let (mut clients, cores, backings) = self.parts();
         let done = all_done(&clients);
@@ -240,7 +242,7 @@ fn make_clients<W: World, O: Origin<W>>(
 
 /// So many writers at rest.
 fn make_writers<W: World>(alloc: Global, count: u32) -> Result<Vec<Writer<W>>, Memory>
-    ensures { IfOk result (λ writers. (w : ℕ) (d : Option Mark) → w < length writers.items → slice_index_or writers.items w d ≡ None) }
+    ensures { IfOk result (λ writers. (w : ℕ) (d : Option Task) → w < length writers.items → slice_index_or writers.items w d ≡ None) }
 {
     let mut writers = Vec::with_capacity(alloc, count as usize)?;
     for _writer in 0..count {
@@ -265,7 +267,7 @@ pub fn run_scene<W: World, O: Origin<W>, P: Depot<W>, K: Clock>(
     requires home { P.out depot.old ≡ [] }
     requires sound { IsSoundAtHome W.told P.Data.told W.files (P.home_data depot.old) (P.home_main depot.old) }
     ensures numbers { map O.number result.0.items ≡ asked_clients plan.now }
-    ensures caused { IfOk result.1 (IsCausedReport W.told W.files settings.block_size plan.now nothing_spent (spent_by (rows_of O.number O.calls O.faults result.0.items)) (P.faults depot.old) (P.faults depot.new)) }
+    ensures caused { IfOk result.1 (IsCausedReport W.told W.files settings.block_size settings.capacity plan.now nothing_spent (spent_by (rows_of O.number O.calls O.faults result.0.items)) (P.faults depot.old) (P.faults depot.new)) }
     ensures home { P.out depot.new ≡ [] }
     ensures sound { IsSoundAtHome W.told P.Data.told W.files (P.home_data depot.new) (P.home_main depot.new) }
     ensures unlisted { P.unlisted depot.new ≡ P.unlisted depot.old }

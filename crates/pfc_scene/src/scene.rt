@@ -1,8 +1,8 @@
 // Clients, the cores of their files with what stands beside them, and writers, which step in turn.
 ghost use Rattle.std.specs.Prelude.{◌≡◌, ◌<◌, ◌≤◌, ◌+◌, ℕ, List, [], replicate, length, slice_index_or, IfSome, IfNone, OnOk, IfOk, IsTrue, true, false, ◌==◌, map, Option, None};
 ghost use Rattle.pfc_base.specs.Cinfo.{IsBlockSize};
-ghost use Rattle.pfc_core.specs.Marks.{Mark};
 ghost use Rattle.pfc_core.specs.View.{CoreView};
+ghost use Rattle.pfc_writer.specs.Writer.{Task};
 ghost use Rattle.pfc_actor.specs.Clients.{ClientView, IsFresh};
 ghost use Rattle.pfc_actor.specs.Stages.{Here};
 ghost use Rattle.pfc_scene.specs.Scenes.{SceneView, IsScene, AreUnique, Moves, who, number_of, asked_more};
@@ -63,7 +63,7 @@ impl<W: World, O: Origin<W>, P: Depot<W>> Scene<W, O, P> {
     ) -> Scene<W, O, P>
         requires fresh { (j : ℕ) (d : ClientView) → j < length clients.items → (n : ℕ) × IsFresh n (slice_index_or clients.items j d) }
         requires unique { AreUnique clients.items }
-        requires resting { (w : ℕ) (d : Option Mark) → w < length writers.items → slice_index_or writers.items w d ≡ None }
+        requires resting { (w : ℕ) (d : Option Task) → w < length writers.items → slice_index_or writers.items w d ≡ None }
         requires empty { queue.jobs ≡ [] }
         requires block_size { IsBlockSize block_size }
         ensures { result ≡ record { clients = clients.items; cores = []; backings = []; writers = writers.items; jobs = []; capacity = queue.capacity; block_size = block_size } }

@@ -1,5 +1,7 @@
 // How writers step.
-ghost use Rattle.std.specs.Prelude.{◌≡◌, ◌<◌, length, IfSome};
+ghost use Rattle.std.specs.Prelude.{◌≡◌, ◌<◌, false, length, slice_index_or, Option, Some, option_map, IfSome};
+ghost use Rattle.pfc_writer.specs.Writer.{Task, is_returning};
+ghost use Rattle.pfc_scene.specs.Queues.{MayGoOn};
 ghost use Rattle.pfc_scene.specs.Scenes.{Moves};
 
 use crate::scene::Scene;
@@ -10,7 +12,8 @@ impl<W: World, O: Origin<W>, P: Depot<W>> Scene<W, O, P> {
     /// The place of the core of the job that the writer at this place is at.
     fn core_of_job(&self, w: usize) -> Option<usize>
         requires { w < length self.now.writers }
-        ensures { IfSome result (λ i. i < length self.now.cores) }
+        ensures low { IfSome result (λ i. i < length self.now.cores) }
+        ensures of { IfSome result (λ i. (d : Option Task) → option_map (λ t. t.job.instance) (slice_index_or self.now.writers w d) ≡ Some i) }
     {
         let Some(instance) = self.writers[w].instance() else {
             return None;
@@ -31,7 +34,8 @@ impl<W: World, O: Origin<W>, P: Depot<W>> Scene<W, O, P> {
 
     /// The writer at this place goes on to its next phase.
     fn go_on(&mut self, w: usize)
-        requires { w < length self.old.writers }
+        requires w { w < length self.old.writers }
+        requires may { (d : Option Task) → MayGoOn self.old.backings (slice_index_or self.old.writers w d) }
         ensures { Moves self.old self.new }
     {
         self.writers[w].go_on();
@@ -41,6 +45,7 @@ impl<W: World, O: Origin<W>, P: Depot<W>> Scene<W, O, P> {
     fn lend_to(&mut self, w: usize, i: usize)
         requires w { w < length self.old.writers }
         requires i { i < length self.old.cores }
+        requires phase { (d : Option Task) → option_map (λ t. t.returning) (slice_index_or self.old.writers w d) ≡ Some false }
         ensures { Moves self.old self.new }
     {
         if self.lend(i) {
@@ -52,6 +57,7 @@ impl<W: World, O: Origin<W>, P: Depot<W>> Scene<W, O, P> {
     fn write_at(&mut self, w: usize, i: usize)
         requires w { w < length self.old.writers }
         requires i { i < length self.old.cores }
+        requires of { (d : Option Task) → option_map (λ t. t.job.instance) (slice_index_or self.old.writers w d) ≡ Some i }
         ensures { Moves self.old self.new }
     {
         let _turn = self.backings[i].write(&mut self.writers[w]);
@@ -61,6 +67,7 @@ impl<W: World, O: Origin<W>, P: Depot<W>> Scene<W, O, P> {
     fn give_from(&mut self, w: usize, i: usize)
         requires w { w < length self.old.writers }
         requires i { i < length self.old.cores }
+        requires of { (d : Option Task) → option_map (λ t. t.job.instance) (slice_index_or self.old.writers w d) ≡ Some i }
         ensures { Moves self.old self.new }
     {
         if self.give(i) {
@@ -72,6 +79,7 @@ impl<W: World, O: Origin<W>, P: Depot<W>> Scene<W, O, P> {
     fn end_job(&mut self, w: usize, i: usize)
         requires w { w < length self.old.writers }
         requires i { i < length self.old.cores }
+        requires phase { (d : Option Task) → option_map (λ t. t.returning) (slice_index_or self.old.writers w d) ≡ Some false }
         ensures { Moves self.old self.new }
     {
         let _ended = self.writers[w].end(&mut self.cores[i]);
@@ -80,7 +88,8 @@ impl<W: World, O: Origin<W>, P: Depot<W>> Scene<W, O, P> {
 
     /// The next step of the job that the writer at this place is at.
     fn work(&mut self, w: usize, phase: Phase)
-        requires { w < length self.old.writers }
+        requires w { w < length self.old.writers }
+        requires phase { (d : Option Task) → option_map (λ t. t.returning) (slice_index_or self.old.writers w d) ≡ Some (is_returning phase) }
         ensures { Moves self.old self.new }
     {
         let Some(i) = self.core_of_job(w) else {

@@ -1,6 +1,6 @@
 -- How a core takes a job back that was written or dropped.
 use Rattle.std.proofs.Common.{◌≡◌, ℕ, List, [], ◌∷◌, ◌++◌, refl, sym, ap, ◌∙◌, subst, Bool, true, false, inl, inr}
-use Rattle.std.specs.Prelude.{◌==◌, if◌then◌else◌}
+use Rattle.std.specs.Prelude.{◌⊎◌, ◌==◌, if◌then◌else◌}
 use Rattle.pfc_log.specs.declared.entry.DropCause.TheVariants as cause
 use Rattle.pfc_log.specs.declared.entry.Entry.{Entry}
 use Rattle.pfc_log.specs.declared.entry.Entry.TheVariants as e
@@ -37,23 +37,25 @@ either : (es one other : List Entry) (q : Bool) → IsQuiet es one → IsQuiet e
 either es one other true this that = this
 either es one other false this that = that
 
-takes : (old new : CoreView) (job : Mark) (es : List Entry) → Loses old.out job new.out → new ≡ record old { entries = es; out = new.out } → IsQuiet old.entries es → TakesJob old job new
-takes old new job es loses is quiet =
+takes : (old new : CoreView) (job : Mark) (es : List Entry) → Loses old.out job new.out → new ≡ record old { entries = es; out = new.out } → IsQuiet old.entries es →
+    jobs.EndsWritten old job new ⊎ Drops old job cause.Frozen new → TakesJob old job new
+takes old new job es loses is quiet ends =
     let same : new.entries ≡ es = ap (λ (v : CoreView). v.entries) is in
     let grown : IsQuiet old.entries new.entries = subst (IsQuiet old.entries) (sym same) quiet in record {
       loses = loses;
       home = subst (λ (l : List Entry). new ≡ record old { entries = l; out = new.out }) (sym same) is;
       calm = grown.calm;
       tallies = grown.tallies;
+      ends = ends;
     }
 
 pub takes_frozen : (old new : CoreView) (job : Mark) → Drops old job cause.Frozen new → TakesJob old job new
 takes_frozen old new job drops = takes old new job _ drops.loses drops.enters
-    (either old.entries _ _ (0 == pins_on job.block job.flight old.out) (left old.entries _ job.block (frozen old.entries job.block)) (frozen old.entries job.block))
+    (either old.entries _ _ (0 == pins_on job.block job.flight old.out) (left old.entries _ job.block (frozen old.entries job.block)) (frozen old.entries job.block)) (inr drops)
 
 takes_ended : (old new : CoreView) (job : Mark) → jobs.Ends old job new → TakesJob old job new
 takes_ended old new job ends = takes old new job _ ends.loses ends.enters
-    (either old.entries _ _ (0 == pins_on job.block job.flight old.out) (left old.entries old.entries job.block (quiet_none old.entries)) (quiet_none old.entries))
+    (either old.entries _ _ (0 == pins_on job.block job.flight old.out) (left old.entries old.entries job.block (quiet_none old.entries)) (quiet_none old.entries)) (inl (inl ends))
 
 pub takes_written : (old new : CoreView) (job : Mark) → jobs.EndsWritten old job new → TakesJob old job new
 takes_written old new job (inl ends) = takes_ended old new job ends

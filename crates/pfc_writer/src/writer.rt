@@ -3,7 +3,7 @@ ghost use Rattle.std.specs.Prelude.{◌≡◌, ◌+◌, ℕ, false, IsTrue, Some
 ghost use Rattle.pfc_core.specs.declared.loan.Did.TheVariants as did;
 ghost use Rattle.pfc_core.specs.Loans.{WritesLent};
 ghost use Rattle.pfc_core.specs.Marks.{Mark};
-ghost use Rattle.pfc_writer.specs.Writer.{work_weight, EndsWork, IsOfStore, TakesJob};
+ghost use Rattle.pfc_writer.specs.Writer.{Task, is_returning, turned, gone_on, work_weight, EndsWork, IsOfStore, TakesJob};
 
 use crate::queue::WriteQueue;
 use crate::turn::write_turn;
@@ -43,7 +43,7 @@ struct Work<W: World> {
     phase: Phase,
 }
 
-/// A writer, with the job that it is at. Contracts see the job alone.
+/// A writer, with the job that it is at. Contracts see the job, and whether its turn is over and the loan still to be given back.
 #[derive(Drop)]
 pub struct Writer<W: World> {
     work: Option<Work<W>>,
@@ -51,11 +51,11 @@ pub struct Writer<W: World> {
 
 impl<W: World> Model for Writer<W> {
     ghost use Rattle.std.specs.Prelude.{Option, option_map};
-    ghost use Rattle.pfc_core.specs.Marks.{Mark};
+    ghost use Rattle.pfc_writer.specs.Writer.{Task, is_returning};
 
-    ghost Value = { Option Mark };
+    ghost Value = { Option Task };
 
-    ghost view = { λ w. option_map (λ x. x.job) w.work };
+    ghost view = { λ w. option_map (λ x. record { job = x.job; returning = is_returning x.phase }) w.work };
 }
 
 impl<W: World> Writer<W> {
@@ -67,7 +67,9 @@ impl<W: World> Writer<W> {
     }
 
     /// How far it has come; `None` at rest.
-    pub fn phase(&self) -> Option<Phase> {
+    pub fn phase(&self) -> Option<Phase>
+        ensures { option_map is_returning result ≡ option_map (λ t. t.returning) self.now }
+    {
         match &self.work {
             None => None,
             Some(work) => Some(work.phase),
@@ -76,7 +78,7 @@ impl<W: World> Writer<W> {
 
     /// The number of the core of its job.
     pub fn instance(&self) -> Option<u64>
-        ensures { result ≡ option_map (λ m. m.instance) self.now }
+        ensures { result ≡ option_map (λ t. t.job.instance) self.now }
     {
         match &self.work {
             None => None,
@@ -87,7 +89,7 @@ impl<W: World> Writer<W> {
     /// Whether it has a job, and that is of the file and block size of the loan.
     pub fn fits<D: DataDev<W>, I: InfoDev<W>>(&self, loan: &Loan<W, D, I>) -> bool
         ensures some { IsTrue result → IsSome self.now }
-        ensures file { IsTrue result → (job : Mark) → self.now ≡ Some job → IsOfStore job loan.now.store }
+        ensures file { IsTrue result → (task : Task) → self.now ≡ Some task → IsOfStore task.job loan.now.store }
     {
         match &self.work {
             None => false,
@@ -99,6 +101,7 @@ impl<W: World> Writer<W> {
     pub fn take(&mut self, queue: &mut WriteQueue<W>) -> bool
         ensures tokens { (w : Mark → ℕ) → work_weight w self.new + sum_by w queue.new.jobs ≡ work_weight w self.old + sum_by w queue.old.jobs }
         ensures capacity { queue.new.capacity ≡ queue.old.capacity }
+        ensures busy { IsSome self.old → (self.new ≡ self.old) × (queue.new ≡ queue.old) }
     {
         if self.work.is_some() {
             return false;
@@ -115,7 +118,7 @@ impl<W: World> Writer<W> {
 
     /// The next phase, where that is no turn and no end: the store was lent, the loan given back, or the bytes counted.
     pub fn go_on(&mut self)
-        ensures { self.new ≡ self.old }
+        ensures { self.new ≡ option_map gone_on self.old }
     {
         let Some(work) = &mut self.work else {
             return;
@@ -128,24 +131,24 @@ impl<W: World> Writer<W> {
         &mut self,
         loan: &mut Loan<W, D, I>,
     ) -> Option<Result<Put, WriteRefusal>>
-        requires path { (job : Mark) → self.old ≡ Some job → job.path ≡ loan.old.store.path }
-        requires size { (job : Mark) → self.old ≡ Some job → job.size ≡ loan.old.store.size }
-        requires block_size { (job : Mark) → self.old ≡ Some job → job.block_size ≡ loan.old.store.block_size }
+        requires path { (task : Task) → self.old ≡ Some task → task.job.path ≡ loan.old.store.path }
+        requires size { (task : Task) → self.old ≡ Some task → task.job.size ≡ loan.old.store.size }
+        requires block_size { (task : Task) → self.old ≡ Some task → task.job.block_size ≡ loan.old.store.block_size }
         requires once { loan.old.did ≡ did.Nothing }
-        ensures job { self.new ≡ self.old }
-        ensures loan { MatchOption result (loan.new ≡ loan.old) (λ answer. (job : Mark) → self.old ≡ Some job → WritesLent W.told W.files D.told I.told D.faults D.seen I.seen loan.old job.block answer loan.new) }
+        ensures job { MatchOption result (self.new ≡ self.old) (λ answer. self.new ≡ option_map turned self.old) }
+        ensures loan { MatchOption result (loan.new ≡ loan.old) (λ answer. (task : Task) → self.old ≡ Some task → WritesLent W.told W.files D.told I.told D.faults D.seen I.seen loan.old task.job.block answer loan.new) }
     {
         let Some(work) = &self.work else {
             return None;
         };
         let answer = write_turn(loan, &work.job);
-        self.turned(outcome_of(answer));
+        self.turn_over(outcome_of(answer));
         Some(answer)
     }
 
     /// Its turn is over.
-    fn turned(&mut self, outcome: Outcome)
-        ensures { self.new ≡ self.old }
+    fn turn_over(&mut self, outcome: Outcome)
+        ensures { self.new ≡ option_map turned self.old }
     {
         let Some(work) = &mut self.work else {
             return;
@@ -206,7 +209,9 @@ fn outcome_of(answer: Result<Put, WriteRefusal>) -> Outcome {
     }
 }
 
-fn next_phase(phase: Phase) -> Phase {
+fn next_phase(phase: Phase) -> Phase
+    ensures { is_returning result ≡ false }
+{
     match phase {
         Phase::Taken => Phase::Lent,
         Phase::Lent => Phase::Lent,

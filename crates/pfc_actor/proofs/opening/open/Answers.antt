@@ -8,12 +8,12 @@ use Rattle.pfc_actor.proofs.opening.open.Goals as goal
 
 pub returns-in-Ok-clause-making : goal.returns-in-Ok-clause-making
 returns-in-Ok-clause-making g c =
-    opened_step _ _ _ _ _ _ c.args.wanted.number c.number.result _ c.args.wanted.path c.in-Ok.stay (λ w. refl) refl refl refl (λ i. refl) c.requires.work.asked.next c.number.ensures c.in-Ok.ensures.ok c.opened.ensures.weighs
+    opened_step _ _ _ _ _ _ c.args.wanted.number c.number.result _ c.args.wanted.path c.in-Ok.stay (λ w. refl) refl refl refl (λ i. refl) refl c.requires.work.asked.next c.number.ensures c.in-Ok.ensures.ok c.opened.ensures.weighs
     (ap (λ (v : BookView). v.number) c.opened.ensures.opened) (ap (λ (v : BookView). v.asked) c.opened.ensures.opened) (ap (λ (v : BookView). v.replies) c.opened.ensures.opened)
 
 pub returns-in-Ok-clause-joining : goal.returns-in-Ok-clause-joining
 returns-in-Ok-clause-joining g c =
-    opened_step _ _ _ _ _ _ c.args.wanted.number c.number.result _ c.args.wanted.path c.in-Ok.stay (λ w. refl) refl refl refl (λ i. refl) c.requires.work.asked.next c.number.ensures c.in-Ok.ensures.ok c.opened.ensures.weighs
+    opened_step _ _ _ _ _ _ c.args.wanted.number c.number.result _ c.args.wanted.path c.in-Ok.stay (λ w. refl) refl refl refl (λ i. refl) refl c.requires.work.asked.next c.number.ensures c.in-Ok.ensures.ok c.opened.ensures.weighs
     (ap (λ (v : BookView). v.number) c.opened.ensures.opened) (ap (λ (v : BookView). v.asked) c.opened.ensures.opened) (ap (λ (v : BookView). v.replies) c.opened.ensures.opened)
 
 pub returns-in-Err-clause-making : goal.returns-in-Err-clause-making

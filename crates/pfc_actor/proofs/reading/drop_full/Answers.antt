@@ -10,7 +10,7 @@ returns-in-Ok-clause-step g c = dropped_step _ _ _ _ _ _ _ c.in-Ok.ensures.ok c.
 
 pub returns-in-Err-clause-step : goal.returns-in-Err-clause-step
 returns-in-Err-clause-step g c = elim c.in-Err.ensures.strayed.cause [
-  | inl none ↦ absurd (no_stranger c.args.book.now (st.Full c.args.op c.args.job) c.args.core.now c.args.job c.requires.knows (c.requires.work.1 ∙ c.requires.here) (omega arith) none)
+  | inl none ↦ absurd (no_stranger c.args.book.now (st.Full c.args.op c.args.job c.args.capacity) c.args.core.now c.args.job c.requires.knows (c.requires.work.1 ∙ c.requires.here) (omega arith) none)
   | inr may ↦ absurd (may tt)
 ]
 

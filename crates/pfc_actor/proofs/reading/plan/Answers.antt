@@ -6,6 +6,7 @@ use Rattle.pfc_actor.proofs.Holding.{placed_weighs, of_file}
 use Rattle.pfc_actor.proofs.Going.{planned_step}
 use Rattle.pfc_actor.proofs.Steps.{own_answered}
 use Rattle.pfc_actor.proofs.Calm.{calm_still, calm_plans}
+use Rattle.pfc_actor.proofs.Giving.{numbered_plans}
 use Rattle.pfc_actor.proofs.reading.plan.Goals as goal
 
 pub returns-in-Ok-clause-work : goal.returns-in-Ok-clause-work
@@ -20,6 +21,7 @@ returns-in-Ok-clause-work g c =
       size_is = plans.begins.reads.size_is ∙ sym file.size_is;
       client_is = plans.begins.reads.client_is ∙ c.number.ensures;
       given_is = plans.idle;
+      numbered = numbered_plans _ _ _ _ _ plans;
     }
 
 pub returns-in-Ok-clause-step : goal.returns-in-Ok-clause-step

@@ -5,11 +5,13 @@ use Rattle.pfc_actor.proofs.Holding.{no_stranger}
 use Rattle.pfc_actor.proofs.Going.{landed_step, failed_step, wanted_step}
 use Rattle.pfc_log.specs.declared.entry.Entry.TheVariants as e
 use Rattle.pfc_actor.proofs.Calm.{calm_still, calm_entered}
+use Rattle.pfc_actor.proofs.Giving.{settled_landed}
 use Rattle.pfc_actor.proofs.reading.run.Goals as goal
 
 pub returns-in-Ok-clause-step : goal.returns-in-Ok-clause-step
 returns-in-Ok-clause-step g c =
     landed_step _ _ _ _ _ _ _ _ _ _ _ c.in-Landed.ensures c.in-Ok.ensures.ok c.supply.ensures c.requires.here (c.requires.work.1.client_is ∙ c.requires.work.0.client_is)
+    (settled_landed _ _ _ _ _ c.in-Landed.ensures.back_is c.in-Ok.ensures.ok c.requires.work.2 c.log-log.ensures.lawful)
 
 pub returns-in-Err-clause-step : goal.returns-in-Err-clause-step
 returns-in-Err-clause-step g c =

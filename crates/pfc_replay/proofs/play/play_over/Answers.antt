@@ -12,9 +12,9 @@ pub returns-in-Ok-clause-caused : goal.returns-in-Ok-clause-caused
 returns-in-Ok-clause-caused g c =
     let links = c.run_scene-links.result.0.items in
     let rows = rows_of g.H.Link.Origin.number g.H.Link.Origin.calls g.H.Link.Origin.faults links in
-    let k = c.args.settings.block_size in
+    let k = c.args.settings.block_size in let capacity = c.args.settings.capacity in
     let faults = g.P.Depot.faults c.args.depot.now in
     let since = g.P.Depot.faults c.run_scene-links.new.depot in
-    caused-same g.W.World.told g.W.World.files k c.args.plan.now (g.H.Sources.spent c.args.host.now) _ (g.H.Sources.spent c.give_back.new.host) faults since c.in-Ok.report
+    caused-same g.W.World.told g.W.World.files k capacity c.args.plan.now (g.H.Sources.spent c.args.host.now) _ (g.H.Sources.spent c.give_back.new.host) faults since c.in-Ok.report
     (λ n. c.give_back.ensures.spent n ∙ given_back-asked g.H.Link.Origin.number g.H.Link.Origin.calls g.H.Link.Origin.faults links c.args.plan.now (g.H.Sources.spent c.args.host.now) n c.run_scene-links.ensures.numbers)
-    (caused-added g.W.World.told g.W.World.files k c.args.plan.now (g.H.Sources.spent c.args.host.now) (spent_by rows) faults since c.in-Ok.report (rw c.in-Ok.is at c.run_scene-links.ensures.caused))
+    (caused-added g.W.World.told g.W.World.files k capacity c.args.plan.now (g.H.Sources.spent c.args.host.now) (spent_by rows) faults since c.in-Ok.report (rw c.in-Ok.is at c.run_scene-links.ensures.caused))

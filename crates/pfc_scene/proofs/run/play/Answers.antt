@@ -14,6 +14,7 @@ loop-step-init g c = record {
   numbers = refl;
   same_length = refl;
   block_size = refl;
+  capacity = refl;
 }
 
 pub loop-step-preserved : goal.loop-step-preserved
@@ -26,6 +27,7 @@ loop-step-preserved g c = record {
   numbers = c.in_ok-play_step.ensures.numbers ∙ c.loop-step.invariant.numbers;
   same_length = c.in_ok-play_step.ensures.length ∙ c.loop-step.invariant.same_length;
   block_size = c.in_ok-play_step.ensures.block_size ∙ c.loop-step.invariant.block_size;
+  capacity = c.in_ok-play_step.ensures.capacity ∙ c.loop-step.invariant.capacity;
 }
 
 pub returns-in_err-play_step-clause-paid : goal.returns-in_err-play_step-clause-paid

@@ -15,4 +15,5 @@ invariant-loop-step g l = record {
   numbers : map number_of l.scene.clients ≡ map number_of l.fn.scene.clients;
   same_length : length l.scene.clients ≡ length l.fn.scene.clients;
   block_size : l.scene.block_size ≡ l.fn.scene.block_size;
+  capacity : l.scene.capacity ≡ l.fn.scene.capacity;
 }

@@ -14,6 +14,9 @@ returns-in-Ask-clause-paid g c f rose = subst (λ (v : SceneView). RoseBy f (set
 pub returns-in-Ask-clause-block_size : goal.returns-in-Ask-clause-block_size
 returns-in-Ask-clause-block_size g c = ap (λ (v : SceneView). v.block_size) c.ask.ensures.rest
 
+pub returns-in-Ask-clause-capacity : goal.returns-in-Ask-clause-capacity
+returns-in-Ask-clause-capacity g c = ap (λ (v : SceneView). v.capacity) c.ask.ensures.rest
+
 pub returns-in-Go-clause-paid : goal.returns-in-Go-clause-paid
 returns-in-Go-clause-paid g c = c.go.ensures.plays.paid
 

@@ -4,6 +4,7 @@ use Rattle.pfc_report.specs.Schedule.{asked_clients}
 use Rattle.pfc_report.specs.Spent.{rows_of, spent_by, nothing_spent}
 use Rattle.pfc_report.specs.Caused.{IsCausedReport}
 use Rattle.pfc_world.specs.Counts.{RoseBy}
+use Rattle.pfc_writer.specs.Queue.{QueueView}
 use Rattle.pfc_actor.specs.Backings.{depot_of}
 use Rattle.pfc_scene.specs.Scenes.{SceneView, IsLentBy, settled, who, number_of}
 use Rattle.pfc_scene.specs.Ends.{all_asked}
@@ -94,10 +95,12 @@ returns-in-Ok-play-clause-caused g c =
     let fresh = fresh_in_order c.make_clients.new.clients.items c.reverse.new.self.items c.make_clients.ensures.fresh c.reverse.ensures.items in
     let asked = c.drain.ensures.plays.same ∙ c.in-Ok-play.ensures.asked ∙ ap (λ (v : SceneView). map (all_asked c.args.plan.now) (map who v.clients)) c.new-scene.ensures ∙ asked_from c.args.plan.now c.reverse.new.self.items ns fresh num in
     let size : c.drain.new.self.block_size ≡ c.args.settings.block_size = c.drain.ensures.plays.block_size ∙ c.play.ensures.block_size ∙ ap (λ (v : SceneView). v.block_size) c.new-scene.ensures in
+    let room : c.drain.new.self.capacity ≡ c.args.settings.capacity = c.drain.ensures.plays.capacity ∙ c.play.ensures.capacity ∙ ap (λ (v : SceneView). v.capacity) c.new-scene.ensures ∙ ap (λ (q : QueueView). q.capacity) c.in-Ok-new.ensures in
     let f = g.P.Depot.faults c.args.depot.now in
     let start : RoseBy f (settled c.new-scene.result.cores c.new-scene.result.backings) f = subst (λ (v : SceneView). RoseBy f (settled v.cores v.backings) f) (sym c.new-scene.ensures) (none_paid f) in
     let paid = c.drain.ensures.plays.paid f (c.play.ensures.paid f start) in
-    subst (λ (k : ℕ). IfOk c.end.result.1 (IsCausedReport g.W.World.told g.W.World.files k c.args.plan.now nothing_spent (spent_by (rows_of g.O.Origin.number g.O.Origin.calls g.O.Origin.faults c.end.result.0.items)) f (g.P.Depot.faults c.end.new.depot))) size (c.end.ensures.caused c.args.plan.now f asked paid)
+    let report : ℕ → ℕ → Type 0 = λ k n. IfOk c.end.result.1 (IsCausedReport g.W.World.told g.W.World.files k n c.args.plan.now nothing_spent (spent_by (rows_of g.O.Origin.number g.O.Origin.calls g.O.Origin.faults c.end.result.0.items)) f (g.P.Depot.faults c.end.new.depot)) in
+    subst (λ (k : ℕ). report k c.args.settings.capacity) size (subst (report c.drain.new.self.block_size) room (c.end.ensures.caused c.args.plan.now f asked paid))
 
 pub returns-in-Err-clause-numbers : goal.returns-in-Err-clause-numbers
 returns-in-Err-clause-numbers g c =

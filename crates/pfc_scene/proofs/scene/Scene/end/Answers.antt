@@ -28,10 +28,11 @@ returns-in-Ok-clause-caused g c lines f asked rose =
     let paid : RoseBy f (all_charges c.args.self.cores) (g.P.Depot.faults c.put_all.new.depot) =
     c.put_all.ensures.paid c.args.self.cores (subst (AreBackings c.args.self.cores) (sym c.parts-clients.ensures.backings) c.parts-clients.ensures.scene.backed) f
     (subst (λ (l : List BackingView). RoseBy f (settled c.args.self.cores l) (g.P.Depot.faults c.args.depot.now)) (sym c.parts-clients.ensures.backings) rose) in
-    let all = caused g.W.World.told g.W.World.files c.args.self.block_size (λ w. beside w c.args.self) lines c.args.self.clients c.args.self.cores c.in-Ok.logs.items f (g.P.Depot.faults c.put_all.new.depot) c.parts-clients.ensures.scene.cast done asked sections paid in
+    let all = caused g.W.World.told g.W.World.files c.args.self.block_size c.args.self.capacity (λ w. beside w c.args.self) lines c.args.self.clients c.args.self.cores c.args.self.backings c.args.self.writers c.args.self.jobs c.in-Ok.logs.items f
+    (g.P.Depot.faults c.put_all.new.depot) c.parts-clients.ensures.scene.cast c.parts-clients.ensures.scene.queued done asked sections paid in
     let report : c.new.result ≡ record { clients = map told_of c.args.self.clients; logs = c.in-Ok.logs.items } = c.new.ensures ∙ ap (λ (l : List Told). record { clients = l; logs = c.in-Ok.logs.items }) told in
-    subst (λ (r : Rows). IsCausedReport g.W.World.told g.W.World.files c.args.self.block_size lines nothing_spent (spent_by r) f (g.P.Depot.faults c.put_all.new.depot) c.new.result) (sym rows)
-    (subst (IsCausedReport g.W.World.told g.W.World.files c.args.self.block_size lines nothing_spent (spent_by (map row_of c.args.self.clients)) f (g.P.Depot.faults c.put_all.new.depot)) (sym report) all)
+    subst (λ (r : Rows). IsCausedReport g.W.World.told g.W.World.files c.args.self.block_size c.args.self.capacity lines nothing_spent (spent_by r) f (g.P.Depot.faults c.put_all.new.depot) c.new.result) (sym rows)
+    (subst (IsCausedReport g.W.World.told g.W.World.files c.args.self.block_size c.args.self.capacity lines nothing_spent (spent_by (map row_of c.args.self.clients)) f (g.P.Depot.faults c.put_all.new.depot)) (sym report) all)
 
 pub returns-in-Err-clause-numbers : goal.returns-in-Err-clause-numbers
 returns-in-Err-clause-numbers g c =

@@ -9,7 +9,7 @@ use Rattle.pfc_actor.specs.Stages.{Here}
 use Rattle.pfc_scene.specs.Scenes.{SceneView}
 use Rattle.pfc_scene.proofs.Casts.{knows, same_at}
 use Rattle.pfc_scene.proofs.Moving.{moves_from}
-use Rattle.pfc_scene.proofs.Scenes.{leave_moves, leave_scene, same_moves, same_scene}
+use Rattle.pfc_scene.proofs.Scenes.{jobs_at, leave_moves, leave_scene, same_moves, same_scene}
 use Rattle.pfc_scene.proofs.scene.Scene.leave_at.Goals as goal
 
 pub leave_at-requires-clause-knows : goal.leave_at-requires-clause-knows
@@ -36,6 +36,7 @@ invariant_of-self g c =
     (same_at c.self.inside.cores.items c.args.i c.index-2.result.now core li c.index-2.ensures c.index_mut-then-allows-2.ensures.value) (c.allows.ensures.yes c.if-allows.true) in
     leave_scene _ c.args.j c.args.i c.in-Some.block a c.leave_at.new.self core c.leave_at.new.core c.index_mut.result.now c.allows.new.self c.self.invariant lj li
     c.index_mut-then-allows.ensures.value c.index_mut-then-allows-2.ensures.value c.index_mut.ensures.value c.leave_at.ensures.step enters allows (search rules)
+    (jobs_at c.self.inside.cores.items c.args.i c.leave_at.new.core c.index-then-allows.result.now li c.index-then-allows.ensures c.own.ensures.jobs)
 
 pub invariant_of-self-else-allows : goal.invariant_of-self-else-allows
 invariant_of-self-else-allows g c = same_scene _ c.args.i c.index_mut.result.now c.allows.new.self c.self.invariant c.index_mut.ensures.value (c.allows.ensures.no c.if-allows.false)

@@ -7,7 +7,7 @@ use Rattle.pfc_scene.proofs.scene.Scene.read_at.Goals as goal
 pub invariant_of-self : goal.invariant_of-self
 invariant_of-self g c =
     client_scene _ c.args.j c.index_mut-2.result.now c.read.new.client
-    (backing_scene _ c.args.i c.index_mut.result.now c.read.new.self c.self.invariant (search rules) c.index_mut.ensures.value c.read.ensures.keeps) (search rules) c.index_mut-2.ensures.value c.read.ensures.own
+    (backing_scene _ c.args.i c.index_mut.result.now c.read.new.self c.self.invariant (search rules) c.index_mut.ensures.value c.read.ensures.keeps c.read.ensures.written) (search rules) c.index_mut-2.ensures.value c.read.ensures.own
 
 pub returns : goal.returns
 returns g c =

@@ -6,7 +6,7 @@ use Rattle.pfc_actor.specs.Stages.{Here}
 use Rattle.pfc_scene.specs.Scenes.{SceneView}
 use Rattle.pfc_scene.proofs.Casts.{knows}
 use Rattle.pfc_scene.proofs.Moving.{moves_from}
-use Rattle.pfc_scene.proofs.Scenes.{on_moves, on_scene, own_at}
+use Rattle.pfc_scene.proofs.Scenes.{jobs_at, on_moves, on_scene, own_at}
 use Rattle.pfc_scene.proofs.scene.Scene.returned.Goals as goal
 
 pub returned-requires-clause-knows : goal.returned-requires-clause-knows
@@ -23,7 +23,8 @@ returned-requires-clause-here g c κs within =
 pub invariant_of-self : goal.invariant_of-self
 invariant_of-self g c =
     on_scene _ c.args.j c.args.i c.index_mut.result.now c.returned.new.self c.index_mut-2.result.now c.returned.new.core c.self.invariant (search rules) (search rules)
-    c.index_mut.ensures.value c.index_mut-2.ensures.value c.returned.ensures.step c.returned.ensures.calm (own_at c.self.inside.cores.items c.args.i c.returned.new.core c.index.result.now (search rules) c.index.ensures c.own.ensures)
+    c.index_mut.ensures.value c.index_mut-2.ensures.value c.returned.ensures.step c.returned.ensures.calm (own_at c.self.inside.cores.items c.args.i c.returned.new.core c.index.result.now (search rules) c.index.ensures c.own.ensures.own)
+    (jobs_at c.self.inside.cores.items c.args.i c.returned.new.core c.index.result.now (search rules) c.index.ensures c.own.ensures.jobs)
 
 pub returns : goal.returns
 returns g c =

@@ -6,7 +6,7 @@ use Rattle.pfc_actor.specs.Stages.{Here}
 use Rattle.pfc_scene.specs.Scenes.{SceneView}
 use Rattle.pfc_scene.proofs.Casts.{knows}
 use Rattle.pfc_scene.proofs.Moving.{moves_from}
-use Rattle.pfc_scene.proofs.Scenes.{least_at, on_moves, on_scene, own_at}
+use Rattle.pfc_scene.proofs.Scenes.{jobs_at, least_at, on_moves, on_scene, own_at}
 use Rattle.pfc_scene.proofs.scene.Scene.step_at.Goals as goal
 
 pub step_at-requires-clause-knows : goal.step_at-requires-clause-knows
@@ -26,7 +26,8 @@ step_at-requires-clause-least g c κs within = least_at _ c.args.i c.index_mut-2
 pub invariant_of-self : goal.invariant_of-self
 invariant_of-self g c =
     on_scene _ c.args.j c.args.i c.index_mut.result.now c.step_at.new.self c.index_mut-2.result.now c.step_at.new.core c.self.invariant (search rules) (search rules)
-    c.index_mut.ensures.value c.index_mut-2.ensures.value c.step_at.ensures.step c.step_at.ensures.calm (own_at c.self.inside.cores.items c.args.i c.step_at.new.core c.index.result.now (search rules) c.index.ensures c.own.ensures)
+    c.index_mut.ensures.value c.index_mut-2.ensures.value c.step_at.ensures.step c.step_at.ensures.calm (own_at c.self.inside.cores.items c.args.i c.step_at.new.core c.index.result.now (search rules) c.index.ensures c.own.ensures.own)
+    (jobs_at c.self.inside.cores.items c.args.i c.step_at.new.core c.index.result.now (search rules) c.index.ensures c.own.ensures.jobs)
 
 pub returns : goal.returns
 returns g c =
