@@ -1,14 +1,20 @@
-# make demo: makes an origin folder with a file of some MiB, runs a schedule of two clients over it, shows replies and log
+# make demo: makes an origin folder with a file of some MiB, runs a schedule of two clients over it, shows replies and log, and
+#   then what later runs find on disk
+# make crash: kills runs over one cache with signal 9, a hundred times, and reads back what they claimed
 # make bin: builds the proved programs into bin/
 # make bench: prints what the hot paths cost on this machine, beside the same jobs in C
 
 PROGRAMS := xcache_replay xrdpfc_print
 PROGRAMS := $(filter $(PROGRAMS),$(notdir $(wildcard crates/*)))
 
-.PHONY: demo bin bench clean
+.PHONY: demo crash bin bench clean
 
 demo: bin
 	sh examples/demo.sh
+	sh examples/restart.sh
+
+crash: bin
+	sh examples/crash/run.sh
 
 bin: $(addprefix bin/,$(PROGRAMS))
 

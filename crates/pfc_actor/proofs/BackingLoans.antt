@@ -23,7 +23,7 @@ module _ {W D I : Type 0} (c c2 : CoreView) (faults : D → ℕ) (counts : I →
   lent_step (held.Open s) held.Bare is = absurd is
   lent_step (held.Open s) (held.Taken v) is = absurd is
   lent_step (held.Open s) (held.Open x) is = absurd is
-  lent_step (held.Open s) (held.Lent l) is = lend_step c c2 s l faults counts p u is.0 is.1
+  lent_step (held.Open s) (held.Lent l) is = lend_step c c2 s l faults counts p u is.aim is.for_turn is.lends is.of
 
   given_step : (h h2 : Held W D I) → GivenBy c h c2 h2 → LoanStep c (beside (stand_of h) p (now_of faults counts h) u) c2 (beside (stand_of h2) p (now_of faults counts h2) u)
   given_step held.Bare h2 is = absurd is

@@ -1,12 +1,12 @@
 -- What stands beside a core, as calls go on.
 use Rattle.std.proofs.Common.{◌≡◌, ℕ, ◌+◌, List, [], ◌∷◌, ◌++◌, refl, sym, ap, subst, ◌∙◌, arith, Bool, true, false, inl, inr}
-use Rattle.std.specs.Prelude.{Result, Ok, Err, Option, Some, None, IfSome, sum_by, if◌then◌else◌}
+use Rattle.std.specs.Prelude.{Result, Ok, Err, Option, Some, None, IfSome, count_by, sum_by, if◌then◌else◌}
 use Rattle.pfc_world.specs.Disk.{Disk}
 use Rattle.pfc_world.specs.Files.{Files}
 use Rattle.pfc_world.specs.Info.{Info}
 use Rattle.pfc_world.specs.Run.{Run}
 use Rattle.pfc_log.specs.declared.entry.Entry.{Entry}
-use Rattle.pfc_log.specs.declared.entry.Entry.TheVariants.{Direct, Wrote, Frozen}
+use Rattle.pfc_log.specs.declared.entry.Entry.TheVariants.{Direct, Wrote, Synced, Claimed, Frozen}
 use Rattle.pfc_log.specs.declared.entry.Way.TheVariants.{Device}
 use Rattle.pfc_log.specs.declared.start.Start.{Start}
 use Rattle.pfc_log.specs.Charges.{charge, charges, is_charged, is_there}
@@ -23,8 +23,8 @@ use Rattle.pfc_store.specs.Data.{Writes}
 use Rattle.pfc_store.specs.Views.{DataView, StoreView}
 use Rattle.pfc_core.specs.declared.loan.Did.{Did}
 use Rattle.pfc_core.specs.declared.loan.Did.TheVariants as did
-use Rattle.pfc_core.specs.Lending.{Lends, Gives, with_did}
-use Rattle.pfc_core.specs.Loans.{LoanView, IsLoan, WritesLent, did_by}
+use Rattle.pfc_core.specs.Lending.{LendsFor, Gives, with_did}
+use Rattle.pfc_core.specs.Loans.{Aim, LoanView, IsLoan, WritesLent, did_by}
 use Rattle.pfc_core.specs.Marks.{Mark, LoanKind}
 use Rattle.pfc_core.specs.View.{CoreView}
 use Rattle.pfc_actor.specs.Backings.{BackingView, Stand, Bare, Taken, Open, Lent, broken_in, written_in, Covers, EntersBy, StandsFor, HasCovered, IsBackingOf, LoanStep, AllowsLeave}
@@ -107,10 +107,10 @@ module _ (c : CoreView) (p now : ℕ × ℕ) (u : ℕ) (m : Mark) (path : List �
     written = subst (λ (x : Did). IfSome (written_in (Lent m x)) (λ i. (None ≡ Some i) × (record c { out = o } ≡ c))) (sym idle) tt;
   }
 
-  comes : (es : List Entry) (o : List Mark) (stored : List Bool) (d : Did) → ((w : Mark → ℕ) → sum_by w o + w m ≡ sum_by w c.out) → ((n : ℕ) → tally n es ≡ tally n c.entries) → times is_there es ≡ times is_there c.entries →
+  comes : (es : List Entry) (o : List Mark) (stored safe claimed : List Bool) (d : Did) → ((w : Mark → ℕ) → sum_by w o + w m ≡ sum_by w c.out) → ((n : ℕ) → tally n es ≡ tally n c.entries) → times is_there es ≡ times is_there c.entries →
       charges c.first es ≡ charges c.first c.entries + broken_in (Lent m d) →
-      EntersBy (written_in (Lent m d)) c (record c { entries = es; out = o; stored = stored }) → LoanStep c (beside (Lent m d) p now u) (record c { entries = es; out = o; stored = stored }) (beside (Open path size k) p now u)
-  comes es o stored d loses tallies theres charged entered = record {
+      EntersBy (written_in (Lent m d)) c (record c { entries = es; out = o; stored = stored; durable = safe; claimed = claimed }) → LoanStep c (beside (Lent m d) p now u) (record c { entries = es; out = o; stored = stored; durable = safe; claimed = claimed }) (beside (Open path size k) p now u)
+  comes es o stored safe claimed d loses tallies theres charged entered = record {
     tokens = λ w. omega (arith, loses w);
     home = refl;
     tallies = tallies;
@@ -126,15 +126,18 @@ module _ (c : CoreView) (p now : ℕ × ℕ) (u : ℕ) (m : Mark) (path : List �
     written = tt;
   }
 
-  came : (o : List Mark) (d : Did) → ((w : Mark → ℕ) → sum_by w o + w m ≡ sum_by w c.out) →
-      LoanStep c (beside (Lent m d) p now u) (record (with_did c d) { out = o }) (beside (Open path size k) p now u)
-  came o did.Nothing loses = comes c.entries o c.stored did.Nothing loses (λ n. refl) refl (omega arith) (plain_same c.entries c.entries refl)
-  came o (did.Wrote i) loses = comes (c.entries ++ Wrote i ∷ []) o _ (did.Wrote i) loses (λ n. tally_same n c.entries (Wrote i) refl) (times_none is_there c.entries (Wrote i) refl) (charges_more c.first c.entries (Wrote i)) (inr refl)
-  came o did.Broke loses = comes (c.entries ++ Frozen ∷ []) o c.durable did.Broke loses (λ n. tally_same n c.entries Frozen refl) (times_none is_there c.entries Frozen refl) (charges_more c.first c.entries Frozen) (plain_one c.entries (c.entries ++ Frozen ∷ []) Frozen refl refl)
+  came : (o : List Mark) (at : ℕ) (d : Did) → ((w : Mark → ℕ) → sum_by w o + w m ≡ sum_by w c.out) →
+      LoanStep c (beside (Lent m d) p now u) (record (with_did c at d) { out = o }) (beside (Open path size k) p now u)
+  came o at did.Nothing loses = comes c.entries o c.stored c.durable c.claimed did.Nothing loses (λ n. refl) refl (omega arith) (plain_same c.entries c.entries refl)
+  came o at (did.Wrote i) loses = comes (c.entries ++ Wrote i ∷ []) o _ c.durable c.claimed (did.Wrote i) loses (λ n. tally_same n c.entries (Wrote i) refl) (times_none is_there c.entries (Wrote i) refl) (charges_more c.first c.entries (Wrote i)) (inr refl)
+  came o at did.Synced loses = comes (c.entries ++ Synced ∷ []) o c.stored c.stored c.claimed did.Synced loses (λ n. tally_same n c.entries Synced refl) (times_none is_there c.entries Synced refl) (charges_more c.first c.entries Synced) (plain_one c.entries (c.entries ++ Synced ∷ []) Synced refl refl)
+  came o at did.Claimed loses = let x : Entry = Claimed at (count_by (λ (member : Bool). member) c.durable) in
+      comes (c.entries ++ x ∷ []) o c.stored c.durable c.durable did.Claimed loses (λ n. tally_same n c.entries x refl) (times_none is_there c.entries x refl) (charges_more c.first c.entries x) (plain_one c.entries (c.entries ++ x ∷ []) x refl refl)
+  came o at did.Broke loses = comes (c.entries ++ Frozen ∷ []) o c.durable c.durable c.claimed did.Broke loses (λ n. tally_same n c.entries Frozen refl) (times_none is_there c.entries Frozen refl) (charges_more c.first c.entries Frozen) (plain_one c.entries (c.entries ++ Frozen ∷ []) Frozen refl refl)
 
-pub lend_step : {D I : Type 0} (c c2 : CoreView) (s : StoreView D I) (loan : LoanView D I) (faults : D → ℕ) (counts : I → ℕ) (p : ℕ × ℕ) (u : ℕ) → Lends c (Some s) loan c2 → IsLoan loan.mark loan.store →
+pub lend_step : {D I : Type 0} (c c2 : CoreView) (s : StoreView D I) (loan : LoanView D I) (faults : D → ℕ) (counts : I → ℕ) (p : ℕ × ℕ) (u : ℕ) (aim : Aim) (for_turn : Bool) → LendsFor aim for_turn c (Some s) loan c2 → IsLoan loan.mark loan.store →
     LoanStep c (beside (Open s.path s.size s.block_size) p (faults s.first, counts s.second) u) c2 (beside (Lent loan.mark loan.did) p (faults loan.store.first, counts loan.store.second) u)
-lend_step {D = D} {I = I} c c2 s loan faults counts p u lends is =
+lend_step {D = D} {I = I} c c2 s loan faults counts p u aim for_turn lends is =
     let same : s ≡ loan.store = let e = lends.store_is in cc in
     rw same
     (subst (λ (v : CoreView). LoanStep c (beside (Open loan.store.path loan.store.size loan.store.block_size) p (faults loan.store.first, counts loan.store.second) u) v (beside (Lent loan.mark loan.did) p (faults loan.store.first, counts loan.store.second) u)) (sym lends.rest)
@@ -145,7 +148,7 @@ pub give_step : {D I : Type 0} (c c2 : CoreView) (s : StoreView D I) (loan : Loa
 give_step {D = D} {I = I} c c2 s loan faults counts p u gives is same =
     rw same
     (subst (λ (v : CoreView). LoanStep c (beside (Lent loan.mark loan.did) p (faults loan.store.first, counts loan.store.second) u) v (beside (Open loan.store.path loan.store.size loan.store.block_size) p (faults loan.store.first, counts loan.store.second) u)) (sym gives.enters)
-    (came c p (faults loan.store.first, counts loan.store.second) u loan.mark loan.store.path loan.store.size loan.store.block_size is.path_is is.size_is is.block_size_is c2.out loan.did gives.loses))
+    (came c p (faults loan.store.first, counts loan.store.second) u loan.mark loan.store.path loan.store.size loan.store.block_size is.path_is is.size_is is.block_size_is c2.out loan.mark.flight loan.did gives.loses))
 
 -- ---- a direct read
 

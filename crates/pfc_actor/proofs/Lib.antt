@@ -14,3 +14,4 @@ pub mod Asking
 pub mod Backings
 pub mod BackingHomes
 pub mod BackingLoans
+mod Turning

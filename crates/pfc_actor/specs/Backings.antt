@@ -93,7 +93,7 @@ abbrev pub written_in : Stand → Option ℕ
 written_in (Lent mark (did.Wrote i)) = Some i
 written_in _ = None
 
--- a failed write that isn't entered yet
+-- a failed write, sync or put that isn't entered yet
 abbrev pub broken_in : Stand → ℕ
 broken_in (Lent mark did.Broke) = 1
 broken_in _ = 0
@@ -210,7 +210,7 @@ EntersBy (Some i) c c2 = (c2 ≡ c) ⊎ (c2.entries ≡ c.entries ++ Wrote i ∷
 -- the store of a core is lent, or comes back with what was done
 pub record LoanStep (c : CoreView) (b : BackingView) (c2 : CoreView) (b2 : BackingView) : Type 0 where
   pub tokens : (w : Mark → ℕ) → sum_by w c2.out + loan_weight w b.stand ≡ sum_by w c.out + loan_weight w b2.stand
-  pub home : c2 ≡ record c { entries = c2.entries; out = c2.out; stored = c2.stored }
+  pub home : c2 ≡ record c { entries = c2.entries; out = c2.out; stored = c2.stored; durable = c2.durable; claimed = c2.claimed }
   pub tallies : (n : ℕ) → tally n c2.entries ≡ tally n c.entries
   pub theres : times is_there c2.entries ≡ times is_there c.entries
   pub path : path_in b2.stand ≡ path_in b.stand

@@ -1,12 +1,13 @@
 -- How contracts see what stands beside a core, and what calls do to it.
-use Rattle.std.specs.Prelude.{◌≡◌, ◌≤◌, ◌+◌, ℕ, Option, Some, None, Result, Ok, Err, min}
+use Rattle.std.specs.Prelude.{◌≡◌, ◌≤◌, ◌⊎◌, ◌+◌, ℕ, Bool, Option, Some, None, Result, Ok, Err, min}
 use Rattle.pfc_world.specs.Counts.{Rose, last_count}
+use Rattle.pfc_store.specs.Views.{StoreView}
 use Rattle.pfc_store.specs.declared.broken.ReadRefusal.{ReadRefusal}
 use Rattle.pfc_store.specs.declared.broken.ReadRefusal.TheVariants as reading
 use Rattle.pfc_core.specs.declared.loan.Did.{Did}
 use Rattle.pfc_core.specs.declared.loan.Did.TheVariants as did
-use Rattle.pfc_core.specs.Lending.{Lends, Gives}
-use Rattle.pfc_core.specs.Loans.{LoanView, IsLoan}
+use Rattle.pfc_core.specs.Lending.{LendsFor, Gives}
+use Rattle.pfc_core.specs.Loans.{Aim, LoanView, IsLoan}
 use Rattle.pfc_core.specs.View.{CoreView}
 use Rattle.pfc_actor.specs.declared.backing.Held.{Held}
 use Rattle.pfc_actor.specs.declared.backing.Held.TheVariants as held
@@ -30,9 +31,16 @@ abbrev pub IsParted : {W D I : Type 0} → (D → ℕ) → (I → ℕ) → Held 
 IsParted one two h None = stand_of h ≡ Bare
 IsParted one two h (Some v) = (path_in (stand_of h) ≡ Some v.path) × (now_of one two h ≡ (one v.first, two v.second))
 
+-- the store is lent, for whatever it is
+pub record LendsStore {D I : Type 0} (old : CoreView) (store : StoreView D I) (loan : LoanView D I) (new : CoreView) : Type 0 where
+  pub aim : Aim
+  pub for_turn : Bool
+  pub lends : LendsFor aim for_turn old (Some store) loan new
+  pub of : IsLoan loan.mark loan.store
+
 -- the store that stood there is lent
 abbrev pub LentBy : {W D I : Type 0} → CoreView → Held W D I → CoreView → Held W D I → Type 0
-LentBy old (held.Open store) new (held.Lent loan) = Lends old (Some store) loan new × IsLoan loan.mark loan.store
+LentBy old (held.Open store) new (held.Lent loan) = LendsStore old store loan new
 LentBy old _ new _ = ⊥
 
 -- the loan that stood there is given back
@@ -65,3 +73,17 @@ Counted before (Some (Ok u)) after = after ≡ before
 Counted before (Some (Err reading.Absent)) after = after ≡ before
 Counted before (Some (Err (reading.Frozen broken))) after = after ≡ before
 Counted before (Some (Err (reading.Device broken))) after = after ≡ min (before + 1) last_count
+
+-- a sync or a put that failed rose the count of one of the devices
+abbrev pub TurnBreaks : ℕ × ℕ → ℕ × ℕ → Did → Type 0
+TurnBreaks before after did.Broke = Rose before.0 after.0 ⊎ Rose before.1 after.1
+TurnBreaks before after (did.Wrote i) = ⊥
+TurnBreaks before after _ = Unit {0}
+
+-- a turn by a loan that did nothing yet
+pub record TurnsBy {D I : Type 0} (faults : D → ℕ) (counts : I → ℕ) (old new : LoanView D I) : Type 0 where
+  pub idle : old.did ≡ did.Nothing
+  pub mark_is : new.mark ≡ old.mark
+  pub first_rises : faults old.store.first ≤ faults new.store.first
+  pub second_rises : counts old.store.second ≤ counts new.store.second
+  pub breaks : TurnBreaks (faults old.store.first, counts old.store.second) (faults new.store.first, counts new.store.second) new.did

@@ -7,10 +7,11 @@ ghost use Rattle.pfc_actor.specs.Steps.{Own};
 
 use crate::client::Client;
 use crate::volume::{
-    Volume, copied, counted, given_to, is_bare, lent_by, opened, parted, put_home, spend, write_by,
+    Volume, copied, counted, given_to, is_bare, lent_by, lent_for_turn, opened, parted, put_home,
+    spend, turn_of, write_by,
 };
 use pfc_base::{BlockSet, Memory};
-use pfc_core::{FileCore, Loan};
+use pfc_core::{FileCore, Loan, Turn};
 use pfc_store::FileStore;
 use pfc_world::{DataDev, Depot, InfoDev, Known, Origin, Refusal, Taken, World};
 use pfc_writer::Writer;
@@ -143,6 +144,30 @@ impl<W: World, P: Depot<W>> Backing<W, P> {
         let (next, lent) = lent_by(core, held);
         spend(mem::replace(&mut self.held, next));
         lent
+    }
+
+    /// Lends the store for a turn of a sync, where it is at home. It tells whether it did: a store that is frozen isn't lent, and one
+    /// for which there is no memory.
+    pub fn lend_turn(&mut self, alloc: Global, core: &mut FileCore<W>, turn: Turn) -> bool
+        ensures step { LoanStep core.old self.old core.new self.new }
+        ensures yes { IsTrue result → IsLent self.new.stand }
+        ensures no { result ≡ false → (core.new ≡ core.old) × (self.new ≡ self.old) }
+    {
+        let held = mem::replace(&mut self.held, Held::Bare);
+        let (next, lent) = lent_for_turn(alloc, core, held, turn);
+        spend(mem::replace(&mut self.held, next));
+        lent
+    }
+
+    /// Makes the turn for which the store was lent. It tells whether that went well.
+    pub fn turn(&mut self, alloc: Global) -> bool
+        ensures keeps { KeepsBacking self.old self.new }
+        ensures written { written_in self.new.stand ≡ written_in self.old.stand }
+    {
+        let Held::Lent(loan) = &mut self.held else {
+            return false;
+        };
+        turn_of(alloc, loan)
     }
 
     /// Gives the loan back to the core, and enters what it did. It tells whether the core took it.

@@ -1,5 +1,5 @@
 // What is done with a volume, its store or the loan of that.
-ghost use Rattle.std.specs.Prelude.{◌≡◌, ◌≢◌, ◌≤◌, List, ℕ, Contains, length, false, Some, IsTrue, IfOk, IfErr, OnOk, OnErr, MatchBool};
+ghost use Rattle.std.specs.Prelude.{◌≡◌, ◌≢◌, ◌≤◌, ◌⊎◌, List, ℕ, Contains, length, false, Some, IsTrue, IfOk, IfErr, OnOk, OnErr, MatchBool};
 ghost use Rattle.pfc_base.specs.Block.{count_of};
 ghost use Rattle.pfc_base.specs.Cinfo.{IsBlockSize};
 ghost use Rattle.pfc_world.specs.Counts.{add_count, last_count};
@@ -7,13 +7,14 @@ ghost use Rattle.pfc_world.specs.Depot.{AllSound, Loses, risen};
 ghost use Rattle.pfc_world.specs.Disk.{IsImage};
 ghost use Rattle.pfc_world.specs.Info.{IsMain};
 ghost use Rattle.pfc_actor.specs.Backings.{Bare, Taken, IsSoundAtHome, IsTaken, Later, Opens, OpensBy};
-ghost use Rattle.pfc_actor.specs.Standings.{stand_of, now_of, Counted, GivenBy, IsParted, LentBy, WritesBlock, WritesBy};
+ghost use Rattle.pfc_actor.specs.Standings.{stand_of, now_of, Counted, GivenBy, IsParted, LentBy, TurnsBy, WritesBlock, WritesBy};
 ghost use Rattle.pfc_writer.specs.Writer.{Task, turned};
 
 use crate::backing::Held;
 use pfc_base::{BlockSet, Memory};
-use pfc_core::{Did, FileCore, Loan, Strayed};
+use pfc_core::{Did, FileCore, Loan, Strayed, Turn};
 use pfc_store::{FileStore, OpenRefusal, ReadRefusal};
+use pfc_sync::turn_by;
 use pfc_world::{DataDev, Depot, InfoDev, Known, Refusal, World};
 use pfc_writer::Writer;
 use std::alloc::Global;
@@ -220,6 +221,41 @@ pub(crate) fn lent_by<W: World, D: DataDev<W>, I: InfoDev<W>>(
             None => unreachable!(),
         },
     }
+}
+
+/// Lends the store that stands there for a turn of a sync. It tells whether it did.
+pub(crate) fn lent_for_turn<W: World, D: DataDev<W>, I: InfoDev<W>>(
+    alloc: Global,
+    core: &mut FileCore<W>,
+    held: Held<W, D, I>,
+    turn: Turn,
+) -> (Held<W, D, I>, bool)
+    ensures { MatchBool result.1 (LentBy core.old held core.new result.0) ((core.new ≡ core.old) × (result.0 ≡ held)) }
+{
+    let Held::Open(store) = held else {
+        return (held, false);
+    };
+    let mut home = Some(store);
+    match core.lend_turn(alloc, &mut home, turn) {
+        Ok(loan) => {
+            loan.keeps();
+            (Held::Lent(loan), true)
+        }
+        Err(_) => match home {
+            Some(store) => (Held::Open(store), false),
+            None => unreachable!(),
+        },
+    }
+}
+
+/// Makes the turn for which a store was lent, where the loan did nothing yet. It tells whether that went well.
+pub(crate) fn turn_of<W: World, D: DataDev<W>, I: InfoDev<W>>(
+    alloc: Global,
+    loan: &mut Loan<W, D, I>,
+) -> bool
+    ensures { TurnsBy D.faults I.faults loan.old loan.new ⊎ (loan.new ≡ loan.old) }
+{
+    turn_by(alloc, loan)
 }
 
 /// Gives the loan that stands there back to its core. It tells whether the core took it.

@@ -21,8 +21,8 @@ new_in = record { each = λ n. refl }
 pub new_found : AreFound [] []
 new_found = record { each = λ i n. omega arith }
 
-pub new_said : (set : List Bool) → AreSaid (Stored set) [] (record { stored = set; durable = set; frozen = false })
+pub new_said : (set : List Bool) → AreSaid (Stored set) [] (record { stored = set; durable = set; claimed = set; frozen = false })
 new_said set = record { length_is = refl; long_is = refl; stored_is = λ i. refl; durable_is = λ i. refl; frozen_is = refl }
 
-pub new_bare : (why : Uncached) → AreSaid (start.Uncached why) [] (record { stored = []; durable = []; frozen = false })
+pub new_bare : (why : Uncached) → AreSaid (start.Uncached why) [] (record { stored = []; durable = []; claimed = []; frozen = false })
 new_bare why = record { length_is = refl; long_is = refl; stored_is = λ i. refl; durable_is = λ i. refl; frozen_is = refl }

@@ -4,6 +4,7 @@ use Rattle.std.specs.Prelude.{sum_by, if◌then◌else◌}
 use Rattle.std.proofs.lemmas.List.Sums.{sum_by-cons}
 use Rattle.pfc_core.specs.declared.slot.Slot.{Slot}
 use Rattle.pfc_core.specs.declared.held.Held.{Held}
+use Rattle.pfc_core.specs.declared.loan.Lent.{Lent}
 use Rattle.pfc_core.specs.Held.{Puts, Takes}
 use Rattle.pfc_core.specs.Marks.{Kind, StayKind, ReadingKind, TicketKind, PinKind, JobKind, DiskKind, kind_code, Mark, sees, listed, Gains, Loses, Swaps}
 use Rattle.pfc_core.specs.Slots.{slot_of, IsSingle, ShelfView, Changes, landed_slot, fresh_slot, bumped, lowered, written_slot, ended_slot}
@@ -33,7 +34,7 @@ weight_waits w h s l d = slot_weighs w h s ∙ ap (λ (q : Bool). if q then (if 
 pub weight_idle : (w : Mark → ℕ) (h : Home) (s : Slot) → s.landed ≡ true → s.job ≡ false → slot_weight h w s ≡ 0
 weight_idle w h s l d = slot_weighs w h s ∙ ap (λ (q : Bool). if q then (if s.job then w (mark_in JobKind h (flight_of s)) else 0) else w (mark_in TicketKind h (flight_of s))) l ∙ ap (λ (q : Bool). if q then w (mark_in JobKind h (flight_of s)) else 0) d
 
-module _ (h : Home) (stays readings pins disks : List Held) (loan : Option ℕ) (x : Slot) (old new : ShelfView) where
+module _ (h : Home) (stays readings pins disks : List Held) (loan : Option Lent) (x : Slot) (old new : ShelfView) where
   pub land_swaps : Changes x.block (Some x) (Some (landed_slot x)) old new → x.landed ≡ false → Swaps (out_of h stays readings pins disks loan old.slots) (mark_in TicketKind h (flight_of x)) (mark_in JobKind h (flight_of x)) (out_of h stays readings pins disks loan new.slots)
   land_swaps moved out w = omega (arith, weigh_out w h stays readings pins disks loan old.slots, weigh_out w h stays readings pins disks loan new.slots, moved.weighs (slot_weight h w), weight_flying w h x out, weight_waits w h (landed_slot x) refl refl)
 
@@ -57,7 +58,7 @@ by_slot w h x t j = by_bool x.landed
     (λ l. by_bool x.job (λ d. weight_waits w h x l d ∙ j l d) (λ d. weight_idle w h x l d))
     (λ l. weight_flying w h x l ∙ t l)
 
-module _ (h : Home) (p : Held) (stays readings pins disks : List Held) (loan : Option ℕ) (slots : List Slot) where
+module _ (h : Home) (p : Held) (stays readings pins disks : List Held) (loan : Option Lent) (slots : List Slot) where
   pub unlisted_ticket : IsSingle slots → ((x : Slot) → slot_of p.block slots ≡ Some x → x.landed ≡ false → flight_of x ≡ p → ⊥) → listed (mark_in TicketKind h p) (out_of h stays readings pins disks loan slots) ≡ 0
   unlisted_ticket single none =
       let m = mark_in TicketKind h p in
@@ -80,7 +81,7 @@ module _ (h : Home) (p : Held) (stays readings pins disks : List Held) (loan : O
       apart_kinds : kind_code JobKind ≡ kind_code TicketKind → ⊥
       apart_kinds e = absurd cc
 
-module _ (h : Home) (stays readings pins more disks : List Held) (loan : Option ℕ) (p : Held) (old new : ShelfView) (put : Puts pins p more) where
+module _ (h : Home) (stays readings pins more disks : List Held) (loan : Option Lent) (p : Held) (old new : ShelfView) (put : Puts pins p more) where
   pub fetch_gains : (b t n : ℕ) → Changes b None (Some (fresh_slot b t n)) old new → (w : Mark → ℕ) → sum_by w (out_of h stays readings more disks loan new.slots) ≡ sum_by w (out_of h stays readings pins disks loan old.slots) + w (mark_in TicketKind h (flight_of (fresh_slot b t n))) + w (mark_in PinKind h p)
   fetch_gains b t n moved w = omega (arith, weigh_out w h stays readings pins disks loan old.slots, weigh_out w h stays readings more disks loan new.slots, moved.weighs (slot_weight h w), weight_flying w h (fresh_slot b t n) refl, put.each (λ (q : Held). w (mark_in PinKind h q)))
 
@@ -89,7 +90,7 @@ module _ (h : Home) (stays readings pins more disks : List Held) (loan : Option 
       let same : slot_weight h w (bumped x) ≡ slot_weight h w x = refl in
       omega (arith, weigh_out w h stays readings pins disks loan old.slots, weigh_out w h stays readings more disks loan new.slots, moved.weighs (slot_weight h w), same, put.each (λ (q : Held). w (mark_in PinKind h q)))
 
-module _ (h : Home) (stays readings disks : List Held) (loan : Option ℕ) where
+module _ (h : Home) (stays readings disks : List Held) (loan : Option Lent) where
   pub loses_pin : (p : Held) (pins more : List Held) (slots : List Slot) → Takes p pins more → Loses (out_of h stays readings pins disks loan slots) (mark_in PinKind h p) (out_of h stays readings more disks loan slots)
   loses_pin p pins more slots take w = omega (arith, weigh_out w h stays readings pins disks loan slots, weigh_out w h stays readings more disks loan slots, take.each (λ (q : Held). w (mark_in PinKind h q)))
 

@@ -10,6 +10,7 @@ use Rattle.pfc_log.specs.declared.start.Start.{Start}
 use Rattle.pfc_log.specs.Views.{Place, Flying, Here, place}
 use Rattle.pfc_core.specs.declared.slot.Slot.{Slot}
 use Rattle.pfc_core.specs.declared.held.Held.{Held}
+use Rattle.pfc_core.specs.declared.loan.Lent.{Lent}
 use Rattle.pfc_core.specs.Held.{Takes}
 use Rattle.pfc_core.specs.Marks.{Mark, StayKind, ReadingKind, TicketKind, PinKind, JobKind, DiskKind}
 use Rattle.pfc_core.specs.Pins.{on}
@@ -25,7 +26,7 @@ use Rattle.pfc_core.proofs.Flown.{weight_flying, weight_waits, weight_idle}
 use Rattle.pfc_core.proofs.Outs.{flight_by}
 
 -- the pins of all that is out
-pub pins_on_is : (i t : ℕ) (h : Home) (stays readings pins disks : List Held) (loan : Option ℕ) (slots : List Slot) → pins_on i t (out_of h stays readings pins disks loan slots) ≡ on i t pins
+pub pins_on_is : (i t : ℕ) (h : Home) (stays readings pins disks : List Held) (loan : Option Lent) (slots : List Slot) → pins_on i t (out_of h stays readings pins disks loan slots) ≡ on i t pins
 pins_on_is i t h stays readings pins disks loan slots =
     let w = λ (m : Mark). if is_pin i t m then 1 else 0 in
     let a = sum_zero (λ (p : Held). w (mark_in StayKind h p)) stays (λ p. refl) in
@@ -87,7 +88,7 @@ weigh_at f g None same = refl
 weigh_at f g (Some s) same = same s refl
 
 -- the jobs of all that is out
-pub jobs_on_is : (i t : ℕ) (h : Home) (stays readings pins disks : List Held) (loan : Option ℕ) (slots : List Slot) → IsSingle slots → jobs_on i t (out_of h stays readings pins disks loan slots) ≡ weight_in (job_of t) (slot_of i slots)
+pub jobs_on_is : (i t : ℕ) (h : Home) (stays readings pins disks : List Held) (loan : Option Lent) (slots : List Slot) → IsSingle slots → jobs_on i t (out_of h stays readings pins disks loan slots) ≡ weight_in (job_of t) (slot_of i slots)
 jobs_on_is i t h stays readings pins disks loan slots single =
     let w = weigh_job i t in
     let a = sum_zero (λ (p : Held). w (mark_in StayKind h p)) stays (λ p. refl) in
@@ -124,7 +125,7 @@ parts_of x t h = (grind (arith, tests), grind (arith, tests), grind (arith, test
 all_of : (x : Slot) (t : ℕ) → x.ticket ≡ t → x.landed ≡ true → x.job ≡ false → x.pins ≡ 1 → (x.ticket == t && x.landed && not x.job && x.pins == 1) ≡ true
 all_of x t a b c d = let e = eq-eqb x.ticket t a in let f = eq-eqb x.pins 1 d in grind arith
 
-module _ (es : List Entry) (i t : ℕ) (h : Home) (stays readings pins disks : List Held) (loan : Option ℕ) (slots : List Slot) where
+module _ (es : List Entry) (i t : ℕ) (h : Home) (stays readings pins disks : List Held) (loan : Option Lent) (slots : List Slot) where
   leaves_out : IsSingle slots → Fine es pins i (slot_of i slots) → leaves es (out_of h stays readings pins disks loan slots) i t ≡ leaves_slot t (slot_of i slots)
   leaves_out single fine = ap (λ (k : ℕ). is_here_at t (place i es) && k == 0 && pins_on i t (out_of h stays readings pins disks loan slots) == 1) (jobs_on_is i t h stays readings pins disks loan slots single)
       ∙ ap (λ (k : ℕ). is_here_at t (place i es) && weight_in (job_of t) (slot_of i slots) == 0 && k == 1) (pins_on_is i t h stays readings pins disks loan slots) ∙ leaves_is es pins i t (slot_of i slots) fine

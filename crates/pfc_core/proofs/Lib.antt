@@ -26,3 +26,4 @@ mod Leaving
 mod Looking
 mod Releasing
 mod OpenJobs
+mod Turned

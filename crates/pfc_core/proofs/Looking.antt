@@ -3,6 +3,7 @@ use Rattle.std.proofs.Common.{◌≡◌, ℕ, ◌<◌, List, ap, sym, subst, ari
 use Rattle.std.specs.Prelude.{count_by, if◌then◌else◌}
 use Rattle.pfc_core.specs.declared.slot.Slot.{Slot}
 use Rattle.pfc_core.specs.declared.held.Held.{Held}
+use Rattle.pfc_core.specs.declared.loan.Lent.{Lent}
 use Rattle.pfc_core.specs.Held.{is_held}
 use Rattle.pfc_core.specs.Marks.{Mark, TicketKind, PinKind, sees, listed}
 use Rattle.pfc_core.specs.Leaves.{is_ticket, tickets_on}
@@ -12,7 +13,7 @@ use Rattle.pfc_core.proofs.Rooms.{slot_in_sum}
 use Rattle.pfc_core.proofs.Flown.{weight_flying}
 use Rattle.pfc_core.proofs.Weights.{weigh_out, slot_weight, listed_in}
 
-module _ (h : Home) (stays readings pins disks : List Held) (loan : Option ℕ) (slots : List Slot) where
+module _ (h : Home) (stays readings pins disks : List Held) (loan : Option Lent) (slots : List Slot) where
   listed_here : (p : Held) → 0 < count_by (is_held p) pins → 0 < listed (mark_in PinKind h p) (out_of h stays readings pins disks loan slots)
   listed_here p some = omega (arith, some, weigh_out (sees (mark_in PinKind h p)) h stays readings pins disks loan slots, listed_in PinKind h p pins)
 

@@ -9,6 +9,7 @@ use Rattle.pfc_log.specs.Waiting.{is_waiting, waiting}
 use Rattle.pfc_log.proofs.Waiting.{away_past, except, except_else, count_except}
 use Rattle.pfc_core.specs.declared.slot.Slot.{Slot}
 use Rattle.pfc_core.specs.declared.held.Held.{Held}
+use Rattle.pfc_core.specs.declared.loan.Lent.{Lent}
 use Rattle.pfc_core.specs.Marks.{Mark, StayKind, ReadingKind, PinKind, JobKind, DiskKind}
 use Rattle.pfc_core.specs.Slots.{slot_of, weight_in, IsSingle}
 use Rattle.pfc_core.specs.Tied.{Fine, IsFine}
@@ -30,7 +31,7 @@ abbrev weigh_jobs : (Mark → Bool) → Mark → ℕ
 weigh_jobs f m = one_if (is_job_mark m && f m)
 
 -- all jobs that are out are of slots
-jobs_weigh : (f : Mark → Bool) (h : Home) (stays readings pins disks : List Held) (loan : Option ℕ) (slots : List Slot) → sum_by (weigh_jobs f) (out_of h stays readings pins disks loan slots) ≡ sum_by (slot_weight h (weigh_jobs f)) slots
+jobs_weigh : (f : Mark → Bool) (h : Home) (stays readings pins disks : List Held) (loan : Option Lent) (slots : List Slot) → sum_by (weigh_jobs f) (out_of h stays readings pins disks loan slots) ≡ sum_by (slot_weight h (weigh_jobs f)) slots
 jobs_weigh f h stays readings pins disks loan slots =
     let w = weigh_jobs f in
     let a = sum_zero (λ (p : Held). w (mark_in StayKind h p)) stays (λ p. refl) in
@@ -61,7 +62,7 @@ weight_low f None low = omega arith
 weight_low f (Some s) low = low s
 
 -- each block has one job at most
-one_job : (i : ℕ) (h : Home) (stays readings pins disks : List Held) (loan : Option ℕ) (slots : List Slot) → IsSingle slots → sum_by (job_of i) (out_of h stays readings pins disks loan slots) ≤ 1
+one_job : (i : ℕ) (h : Home) (stays readings pins disks : List Held) (loan : Option Lent) (slots : List Slot) → IsSingle slots → sum_by (job_of i) (out_of h stays readings pins disks loan slots) ≤ 1
 one_job i h stays readings pins disks loan slots single =
     let f = λ (m : Mark). m.block == i in
     let all = jobs_weigh f h stays readings pins disks loan slots in
@@ -120,7 +121,7 @@ count_single f test n (s ∷ ss) single each = elim (each s (ap (λ (q : Bool). 
       omega (arith, sum_by-cons f s ss, w.0, rest, count_except test s.block n w.2 w.1)
 ]
 
-module _ (v : CoreView) (begun : ℕ) (h : Home) (stays readings pins disks : List Held) (loan : Option ℕ) (slots : List Slot) (held : IsHeld v.first v.entries begun slots pins) (single : IsSingle slots) where
+module _ (v : CoreView) (begun : ℕ) (h : Home) (stays readings pins disks : List Held) (loan : Option Lent) (slots : List Slot) (held : IsHeld v.first v.entries begun slots pins) (single : IsSingle slots) where
   none_astray : sum_by (astray v) (out_of h stays readings pins disks loan slots) ≡ 0
   none_astray =
       let f = λ (m : Mark). not (is_here_at m.flight (place m.block v.entries)) in

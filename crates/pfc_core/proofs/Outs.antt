@@ -7,6 +7,7 @@ use Rattle.pfc_log.specs.declared.start.Start.{Start}
 use Rattle.pfc_log.specs.Lawful.{IsComplete}
 use Rattle.pfc_core.specs.declared.slot.Slot.{Slot}
 use Rattle.pfc_core.specs.declared.held.Held.{Held}
+use Rattle.pfc_core.specs.declared.loan.Lent.{Lent}
 use Rattle.pfc_core.specs.Held.{Puts, Takes, is_held}
 use Rattle.pfc_core.specs.Marks.{Kind, StayKind, ReadingKind, TicketKind, PinKind, JobKind, DiskKind, LoanKind, kind_code, Mark, sees, listed, Gains, Loses, Swaps}
 use Rattle.pfc_core.specs.Slots.{slot_of, ShelfView, Changes}
@@ -20,21 +21,21 @@ use Rattle.pfc_core.specs.Calls.{foreign}
 use Rattle.pfc_core.proofs.Numbered.{held_is}
 use Rattle.pfc_core.proofs.Weights.{weigh_out, slot_weight, loan_weight, loan_zero, loan_one, other_loan, listed_in, other_kind, sum_zero, same_kind, same_instance, same_path, same_size, same_block_size, path_self, unseen, same_held}
 
-module _ (h : Home) (readings pins disks : List Held) (loan : Option ℕ) (slots : List Slot) where
+module _ (h : Home) (readings pins disks : List Held) (loan : Option Lent) (slots : List Slot) where
   pub gains_stay : (p : Held) (stays more : List Held) → Puts stays p more → Gains (out_of h stays readings pins disks loan slots) (mark_in StayKind h p) (out_of h more readings pins disks loan slots)
   gains_stay p stays more put w = omega (arith, weigh_out w h stays readings pins disks loan slots, weigh_out w h more readings pins disks loan slots, put.each (λ (q : Held). w (mark_in StayKind h q)))
 
   pub loses_stay : (p : Held) (stays more : List Held) → Takes p stays more → Loses (out_of h stays readings pins disks loan slots) (mark_in StayKind h p) (out_of h more readings pins disks loan slots)
   loses_stay p stays more take w = omega (arith, weigh_out w h stays readings pins disks loan slots, weigh_out w h more readings pins disks loan slots, take.each (λ (q : Held). w (mark_in StayKind h q)))
 
-module _ (h : Home) (stays pins disks : List Held) (loan : Option ℕ) (slots : List Slot) where
+module _ (h : Home) (stays pins disks : List Held) (loan : Option Lent) (slots : List Slot) where
   pub gains_reading : (p : Held) (readings more : List Held) → Puts readings p more → Gains (out_of h stays readings pins disks loan slots) (mark_in ReadingKind h p) (out_of h stays more pins disks loan slots)
   gains_reading p readings more put w = omega (arith, weigh_out w h stays readings pins disks loan slots, weigh_out w h stays more pins disks loan slots, put.each (λ (q : Held). w (mark_in ReadingKind h q)))
 
   pub loses_reading : (p : Held) (readings more : List Held) → Takes p readings more → Loses (out_of h stays readings pins disks loan slots) (mark_in ReadingKind h p) (out_of h stays more pins disks loan slots)
   loses_reading p readings more take w = omega (arith, weigh_out w h stays readings pins disks loan slots, weigh_out w h stays more pins disks loan slots, take.each (λ (q : Held). w (mark_in ReadingKind h q)))
 
-module _ (h : Home) (stays readings pins : List Held) (loan : Option ℕ) (slots : List Slot) where
+module _ (h : Home) (stays readings pins : List Held) (loan : Option Lent) (slots : List Slot) where
   pub gains_disk : (p : Held) (disks more : List Held) → Puts disks p more → Gains (out_of h stays readings pins disks loan slots) (mark_in DiskKind h p) (out_of h stays readings pins more loan slots)
   gains_disk p disks more put w = omega (arith, weigh_out w h stays readings pins disks loan slots, weigh_out w h stays readings pins more loan slots, put.each (λ (q : Held). w (mark_in DiskKind h q)))
 
@@ -42,10 +43,10 @@ module _ (h : Home) (stays readings pins : List Held) (loan : Option ℕ) (slots
   loses_disk p disks more take w = omega (arith, weigh_out w h stays readings pins disks loan slots, weigh_out w h stays readings pins more loan slots, take.each (λ (q : Held). w (mark_in DiskKind h q)))
 
 module _ (h : Home) (stays readings pins disks : List Held) (slots : List Slot) where
-  pub gains_loan : (n : ℕ) → Gains (out_of h stays readings pins disks None slots) (mark_in LoanKind h (loan_of n)) (out_of h stays readings pins disks (Some n) slots)
+  pub gains_loan : (n : Lent) → Gains (out_of h stays readings pins disks None slots) (mark_in LoanKind h (loan_of n)) (out_of h stays readings pins disks (Some n) slots)
   gains_loan n w = omega (arith, weigh_out w h stays readings pins disks None slots, weigh_out w h stays readings pins disks (Some n) slots, loan_one w h n)
 
-  pub loses_loan : (n : ℕ) → Loses (out_of h stays readings pins disks (Some n) slots) (mark_in LoanKind h (loan_of n)) (out_of h stays readings pins disks None slots)
+  pub loses_loan : (n : Lent) → Loses (out_of h stays readings pins disks (Some n) slots) (mark_in LoanKind h (loan_of n)) (out_of h stays readings pins disks None slots)
   loses_loan n w = omega (arith, weigh_out w h stays readings pins disks None slots, weigh_out w h stays readings pins disks (Some n) slots, loan_one w h n)
 
 pub flight_by : (w : Mark → ℕ) (l b : Bool) (t j : Mark) → w t ≡ 0 → w j ≡ 0 → sum_by w (if l then (if b then j ∷ [] else []) else t ∷ []) ≡ 0
@@ -60,7 +61,7 @@ other_flight kind h p slots a b = sum_zero (slot_weight h (sees (mark_in kind h 
     (unseen (mark_in kind h p) (mark_in TicketKind h (flight_of s)) (λ yes. a (same_kind (mark_in kind h p) (mark_in TicketKind h (flight_of s)) yes)))
     (unseen (mark_in kind h p) (mark_in JobKind h (flight_of s)) (λ yes. b (same_kind (mark_in kind h p) (mark_in JobKind h (flight_of s)) yes))))
 
-module _ (h : Home) (p : Held) (stays readings pins disks : List Held) (loan : Option ℕ) (slots : List Slot) where
+module _ (h : Home) (p : Held) (stays readings pins disks : List Held) (loan : Option Lent) (slots : List Slot) where
   pub unlisted_stay : count_by (is_held p) stays ≡ 0 → listed (mark_in StayKind h p) (out_of h stays readings pins disks loan slots) ≡ 0
   unlisted_stay none = omega (
     arith,
@@ -114,7 +115,7 @@ module _ (h : Home) (p : Held) (stays readings pins disks : List Held) (loan : O
   )
 
   -- a loan of another number, or where none is out
-  pub unlisted_loan : ((n : ℕ) → loan ≡ Some n → loan_of n ≡ p → ⊥) → listed (mark_in LoanKind h p) (out_of h stays readings pins disks loan slots) ≡ 0
+  pub unlisted_loan : ((n : Lent) → loan ≡ Some n → loan_of n ≡ p → ⊥) → listed (mark_in LoanKind h p) (out_of h stays readings pins disks loan slots) ≡ 0
   unlisted_loan none = omega (
     arith,
     weigh_out (sees (mark_in LoanKind h p)) h stays readings pins disks loan slots,
@@ -126,7 +127,7 @@ module _ (h : Home) (p : Held) (stays readings pins disks : List Held) (loan : O
     other_flight LoanKind h p slots (λ e. absurd cc) (λ e. absurd cc),
   )
     where
-      unseen_loan : (o : Option ℕ) → ((n : ℕ) → o ≡ Some n → loan_of n ≡ p → ⊥) → loan_weight h (sees (mark_in LoanKind h p)) o ≡ 0
+      unseen_loan : (o : Option Lent) → ((n : Lent) → o ≡ Some n → loan_of n ≡ p → ⊥) → loan_weight h (sees (mark_in LoanKind h p)) o ≡ 0
       unseen_loan None none = refl
       unseen_loan (Some n) none = omega (arith, loan_one (sees (mark_in LoanKind h p)) h n, unseen (mark_in LoanKind h p) (mark_in LoanKind h (loan_of n)) (λ yes. none n refl (held_is p (loan_of n) (sym (same_held LoanKind h p (loan_of n)) ∙ yes))))
 
@@ -138,7 +139,7 @@ unseen_at kind other a h p q apart = unseen (mark_in kind a p) (mark_in other h 
     (λ yes. apart (home_eq a h (same_instance (mark_in kind a p) (mark_in other h q) yes) (same_path (mark_in kind a p) (mark_in other h q) yes) (same_size (mark_in kind a p) (mark_in other h q) yes) (same_block_size (mark_in kind a p) (mark_in other h q) yes)))
 
 -- a token of another core or another file is not out here
-pub unlisted_elsewhere : (kind : Kind) (a h : Home) (p : Held) (stays readings pins disks : List Held) (loan : Option ℕ) (slots : List Slot) → (a ≡ h → ⊥) → listed (mark_in kind a p) (out_of h stays readings pins disks loan slots) ≡ 0
+pub unlisted_elsewhere : (kind : Kind) (a h : Home) (p : Held) (stays readings pins disks : List Held) (loan : Option Lent) (slots : List Slot) → (a ≡ h → ⊥) → listed (mark_in kind a p) (out_of h stays readings pins disks loan slots) ≡ 0
 unlisted_elsewhere kind a h p stays readings pins disks loan slots apart =
     let m = mark_in kind a p in
     let none = λ (other : Kind) (ps : List Held). sum_zero (λ (q : Held). sees m (mark_in other h q)) ps (λ q. unseen_at kind other a h p q apart) in
@@ -154,7 +155,7 @@ own_mark v kind p =
     let a = eq-eqb v.instance v.instance refl in let b = path_self v.path in let c = eq-eqb v.size v.size refl in let d = eq-eqb v.block_size v.block_size refl in
     grind arith
 
-pub own_out : (v : CoreView) (stays readings pins disks : List Held) (loan : Option ℕ) (slots : List Slot) → sum_by (foreign v) (out_of (home_of_view v) stays readings pins disks loan slots) ≡ 0
+pub own_out : (v : CoreView) (stays readings pins disks : List Held) (loan : Option Lent) (slots : List Slot) → sum_by (foreign v) (out_of (home_of_view v) stays readings pins disks loan slots) ≡ 0
 own_out v stays readings pins disks loan slots =
     let none = λ (kind : Kind) (ps : List Held). sum_zero (λ (q : Held). foreign v (mark_in kind (home_of_view v) q)) ps (λ q. own_mark v kind q) in
     let flights = sum_zero (slot_weight (home_of_view v) (foreign v)) slots (λ s. flight_by (foreign v) s.landed s.job (mark_in TicketKind (home_of_view v) (flight_of s)) (mark_in JobKind (home_of_view v) (flight_of s)) (own_mark v TicketKind (flight_of s)) (own_mark v JobKind (flight_of s))) in
@@ -169,17 +170,17 @@ nil_sum : {X : Type 0} (w : X → ℕ) (xs : List X) → ((x : X) → w x ≡ 1)
 nil_sum w [] all h = refl
 nil_sum w (x ∷ xs) all h = let e = all x in absurd (omega (arith, sum_by-cons w x xs, h))
 
-pub nothing_of : (h : Home) (stays readings pins disks : List Held) (loan : Option ℕ) (slots : List Slot) → stays ≡ [] → readings ≡ [] → pins ≡ [] → disks ≡ [] → loan ≡ None → slots ≡ [] → out_of h stays readings pins disks loan slots ≡ []
+pub nothing_of : (h : Home) (stays readings pins disks : List Held) (loan : Option Lent) (slots : List Slot) → stays ≡ [] → readings ≡ [] → pins ≡ [] → disks ≡ [] → loan ≡ None → slots ≡ [] → out_of h stays readings pins disks loan slots ≡ []
 nothing_of h stays readings pins disks loan slots a b c d e f =
     ap (λ (l : List Held). out_of h l readings pins disks loan slots) a ∙ ap (λ (l : List Held). out_of h [] l pins disks loan slots) b ∙ ap (λ (l : List Held). out_of h [] [] l disks loan slots) c
-    ∙ ap (λ (l : List Held). out_of h [] [] [] l loan slots) d ∙ ap (λ (o : Option ℕ). out_of h [] [] [] [] o slots) e ∙ ap (λ (l : List Slot). out_of h [] [] [] [] None l) f
+    ∙ ap (λ (l : List Held). out_of h [] [] [] l loan slots) d ∙ ap (λ (o : Option Lent). out_of h [] [] [] [] o slots) e ∙ ap (λ (l : List Slot). out_of h [] [] [] [] None l) f
 
 idle_by : (l b : Bool) (t j : Mark) → sum_by (λ (m : Mark). 1) (if l then (if b then j ∷ [] else []) else t ∷ []) ≡ 0 → (l ≡ true) × (b ≡ false)
 idle_by true false t j h = (refl, refl)
 idle_by true true t j h = absurd (omega arith)
 idle_by false b t j h = absurd (omega arith)
 
-no_loan : (h : Home) (loan : Option ℕ) → loan_weight h (λ (m : Mark). 1) loan ≡ 0 → loan ≡ None
+no_loan : (h : Home) (loan : Option Lent) → loan_weight h (λ (m : Mark). 1) loan ≡ 0 → loan ≡ None
 no_loan h None zero_is = refl
 no_loan h (Some n) zero_is = absurd (omega (arith, zero_is, loan_one (λ (m : Mark). 1) h n))
 
@@ -196,7 +197,7 @@ no_slots first es n h (s ∷ ss) pins held none zero_is =
     absurd (omega (arith, some, count, fine.pinned))
 
 -- where no token is out, nothing is kept
-pub nothing_out : (first : Start) (es : List Entry) (n : ℕ) (h : Home) (stays readings pins disks : List Held) (loan : Option ℕ) (slots : List Slot) → IsHeld first es n slots pins → out_of h stays readings pins disks loan slots ≡ [] → (stays ≡ []) × (readings ≡ []) × (pins ≡ []) × (disks ≡ []) × (loan ≡ None) × (slots ≡ [])
+pub nothing_out : (first : Start) (es : List Entry) (n : ℕ) (h : Home) (stays readings pins disks : List Held) (loan : Option Lent) (slots : List Slot) → IsHeld first es n slots pins → out_of h stays readings pins disks loan slots ≡ [] → (stays ≡ []) × (readings ≡ []) × (pins ≡ []) × (disks ≡ []) × (loan ≡ None) × (slots ≡ [])
 nothing_out first es n h stays readings pins disks loan slots held none =
     let zero_is : sum_by (λ (m : Mark). 1) (out_of h stays readings pins disks loan slots) ≡ 0 = ap (sum_by (λ (m : Mark). 1)) none in
     let all = weigh_out (λ (m : Mark). 1) h stays readings pins disks loan slots in

@@ -1,5 +1,5 @@
 -- A pin on a block that is in memory or in flight, by what is kept of it.
-use Rattle.std.proofs.Common.{◌≡◌, ℕ, ◌+◌, List, [], ◌∷◌, ◌++◌, length, sym, refl, ap, ◌∙◌, subst, Bool, true, false, Some, if◌then◌else◌, ◌==◌, eq-eqb}
+use Rattle.std.proofs.Common.{◌≡◌, ℕ, ◌+◌, List, [], ◌∷◌, ◌++◌, length, sym, refl, ap, ◌∙◌, subst, Bool, true, false, Option, Some, if◌then◌else◌, ◌==◌, eq-eqb}
 use Rattle.pfc_base.specs.declared.block.Part.{Part}
 use Rattle.pfc_log.specs.declared.entry.Entry.{Entry}
 use Rattle.pfc_log.specs.declared.entry.Entry.TheVariants.{Join, Hit}
@@ -14,7 +14,9 @@ use Rattle.pfc_core.specs.declared.token.Decision.{Decision}
 use Rattle.pfc_core.specs.declared.token.Decision.TheVariants.{Direct, Resident, Joined, Stored, Fetch}
 use Rattle.pfc_core.specs.Calls.{PinsOn, Decides}
 use Rattle.pfc_core.specs.Held.{Puts}
+use Rattle.pfc_core.specs.declared.loan.Lent.{Lent}
 use Rattle.pfc_core.specs.Kept.{IsHeld, AreIn, AreFound, AreSaid}
+use Rattle.pfc_core.specs.Turned.{AreTurns}
 use Rattle.pfc_core.specs.Leaves.{is_here_at, is_flying_at}
 use Rattle.pfc_core.specs.Marks.{Mark, PinKind, Gains}
 use Rattle.pfc_core.specs.Out.{Home, mark_in}
@@ -27,6 +29,7 @@ use Rattle.pfc_core.proofs.Kept.{hit_kept, join_kept, here_at, flying_at}
 use Rattle.pfc_core.proofs.Rooms.{puts_length}
 use Rattle.pfc_core.proofs.Found.{found_more}
 use Rattle.pfc_core.proofs.Said.{said_more}
+use Rattle.pfc_core.proofs.Turned.{turns_more}
 
 found_here : (n : ℕ) (x : Slot) → x.landed ≡ true → found_by n x ≡ Hit x.block Ram n
 found_here n x h = ap (λ (q : Bool). if q then Hit x.block Ram n else Join x.ticket x.block n) h
@@ -46,6 +49,9 @@ pinned_found n x es disks was = by_found (λ e. AreFound (es ++ e ∷ []) disks)
 
 pub pinned_said : (n : ℕ) (x : Slot) (first : Start) (es : List Entry) (s : SetsView) → AreSaid first es s → AreSaid first (es ++ found_by n x ∷ []) s
 pinned_said n x first es s was = by_found (λ e. AreSaid first (es ++ e ∷ []) s) n x (said_more first es (Hit x.block Ram n) s was refl refl) (said_more first es (Join x.ticket x.block n) s was refl refl)
+
+pub pinned_turns : (n : ℕ) (x : Slot) (first : Start) (es : List Entry) (set : List Bool) (loan : Option Lent) (claim : Option ℕ) (visited : ℕ) → AreTurns first es set loan claim visited → AreTurns first (es ++ found_by n x ∷ []) set loan claim visited
+pinned_turns n x first es set loan claim visited was = by_found (λ e. AreTurns first (es ++ e ∷ []) set loan claim visited) n x (turns_more first es set loan claim visited (Hit x.block Ram n) was refl refl) (turns_more first es set loan claim visited (Join x.ticket x.block n) was refl refl)
 
 module _ {W : Type 0} (h : Home) (n : ℕ) (x : Slot) (pins more : List Held) where
   pub pinned_length : (d : Decision W) → PinnedBy h n x pins more d → length more ≡ length pins + 1

@@ -6,7 +6,7 @@ use Rattle.std.proofs.lemmas.List.{get_or-set_other}
 use Rattle.std.proofs.lemmas.Grind.{get_or-set_at}
 use Rattle.std.proofs.Math.ListN.{length-set}
 use Rattle.pfc_log.specs.declared.entry.Entry.{Entry}
-use Rattle.pfc_log.specs.declared.entry.Entry.TheVariants.{Wrote, Frozen}
+use Rattle.pfc_log.specs.declared.entry.Entry.TheVariants.{Wrote, Synced, Frozen}
 use Rattle.pfc_log.specs.declared.start.Start.{Start}
 use Rattle.pfc_log.specs.Views.{Kept, kept, keeps, stored, durable, times, is_frozen}
 use Rattle.pfc_log.specs.Lawful.{IsUnfrozen}
@@ -40,7 +40,7 @@ stored_frozen first i es some = ap (λ (q : Bool). if q then (kept first i es).w
 keeps_wrote : (b i : ℕ) (k : Kept) → b ≢ i → keeps i k (Wrote b) ≡ k
 keeps_wrote b i k n = ap (λ (q : Bool). if q then record { written = true; durable = k.durable } else k) (ne_eqb b i n)
 
-durable_wrote : (b i : ℕ) (k : Kept) → (keeps i k (Wrote b)).durable ≡ k.durable
+pub durable_wrote : (b i : ℕ) (k : Kept) → (keeps i k (Wrote b)).durable ≡ k.durable
 durable_wrote b i k = elim (b == i) as (λ q. (if q then record { written = true; durable = k.durable } else k).durable ≡ k.durable) [ true ↦ refl | false ↦ refl ]
 
 -- a block is written
@@ -90,3 +90,19 @@ alarm_most s = elim s.frozen as (λ q. (if q then 0 else 1) ≤ 1) [ true ↦ om
 
 pub alarm_on : (s : SetsView) → s.frozen ≡ false → alarm s ≡ 1
 alarm_on s h = ap {B = ℕ} (λ (q : Bool). if q then 0 else 1) h
+
+-- each written block is durable
+pub said_sync : (first : Start) (es : List Entry) (s : SetsView) → AreSaid first es s → IsUnfrozen es → AreSaid first (es ++ Synced ∷ []) (record s { durable = s.stored })
+said_sync first es s was none =
+    let still : IsUnfrozen (es ++ Synced ∷ []) = times_none is_frozen es Synced refl ∙ none in
+    let now : (i : ℕ) → kept first i (es ++ Synced ∷ []) ≡ record { written = (kept first i es).written; durable = (kept first i es).written } = λ i. kept_more first i es Synced in record {
+      length_is = was.length_is;
+      long_is = was.length_is;
+      stored_is = λ i. was.stored_is i ∙ stored_cold first i es none ∙ sym (stored_cold first i (es ++ Synced ∷ []) still ∙ ap (λ (k : Kept). k.written) (now i));
+      durable_is = λ i. was.stored_is i ∙ stored_cold first i es none ∙ sym (ap (λ (k : Kept). k.durable) (now i));
+      frozen_is = was.frozen_is ∙ ap (λ (n : ℕ). if 0 == n then false else true) (sym (times_none is_frozen es Synced refl));
+    }
+
+-- the cinfo claims other blocks
+pub said_claim : (first : Start) (es : List Entry) (s : SetsView) (set : List Bool) → AreSaid first es s → AreSaid first es (record s { claimed = set })
+said_claim first es s set was = record { length_is = was.length_is; long_is = was.long_is; stored_is = was.stored_is; durable_is = was.durable_is; frozen_is = was.frozen_is }

@@ -7,6 +7,7 @@ use Rattle.std.proofs.lemmas.Bool.Decides.{nat_tests}
 use Rattle.std.proofs.lemmas.List.Sums.{sum_by-cons, sum_by-append}
 use Rattle.pfc_core.specs.declared.slot.Slot.{Slot}
 use Rattle.pfc_core.specs.declared.held.Held.{Held}
+use Rattle.pfc_core.specs.declared.loan.Lent.{Lent}
 use Rattle.pfc_core.specs.Held.{is_held}
 use Rattle.pfc_core.specs.Marks.{Kind, StayKind, ReadingKind, PinKind, DiskKind, LoanKind, kind_code, Mark, same, sees}
 use Rattle.pfc_core.specs.Out.{Home, mark_in, flights_at, loan_of, loan_at, out_of}
@@ -25,11 +26,11 @@ abbrev pub slot_weight : Home → (Mark → ℕ) → Slot → ℕ
 slot_weight h w s = sum_by w (flights_at h s)
 
 -- what the loan weighs, where one is out
-abbrev pub loan_weight : Home → (Mark → ℕ) → Option ℕ → ℕ
+abbrev pub loan_weight : Home → (Mark → ℕ) → Option Lent → ℕ
 loan_weight h w loan = sum_by w (loan_at h loan)
 
 -- all that is out, weighed kind by kind
-pub weigh_out : (w : Mark → ℕ) (h : Home) (stays readings pins disks : List Held) (loan : Option ℕ) (slots : List Slot) → sum_by w (out_of h stays readings pins disks loan slots) ≡ kind_weight StayKind h w stays + kind_weight ReadingKind h w readings + kind_weight PinKind h w pins + kind_weight DiskKind h w disks + loan_weight h w loan + sum_by (slot_weight h w) slots
+pub weigh_out : (w : Mark → ℕ) (h : Home) (stays readings pins disks : List Held) (loan : Option Lent) (slots : List Slot) → sum_by w (out_of h stays readings pins disks loan slots) ≡ kind_weight StayKind h w stays + kind_weight ReadingKind h w readings + kind_weight PinKind h w pins + kind_weight DiskKind h w disks + loan_weight h w loan + sum_by (slot_weight h w) slots
 weigh_out w h stays readings pins disks loan slots =
     let a = sum_by-append w (map (mark_in StayKind h) stays ++ map (mark_in ReadingKind h) readings ++ map (mark_in PinKind h) pins ++ map (mark_in DiskKind h) disks ++ loan_at h loan) (flat_map (flights_at h) slots) in
     let b = sum_by-append w (map (mark_in StayKind h) stays ++ map (mark_in ReadingKind h) readings ++ map (mark_in PinKind h) pins ++ map (mark_in DiskKind h) disks) (loan_at h loan) in
@@ -139,13 +140,13 @@ pub other_kind : (kind other : Kind) (h : Home) (p : Held) (ps : List Held) → 
 other_kind kind other h p ps apart = sum_zero (λ q. sees (mark_in kind h p) (mark_in other h q)) ps (λ q. unseen (mark_in kind h p) (mark_in other h q) (λ yes. apart (same_kind (mark_in kind h p) (mark_in other h q) yes)))
 
 -- what the loan weighs where none of its numbers weighs anything
-pub loan_zero : (w : Mark → ℕ) (h : Home) (loan : Option ℕ) → ((n : ℕ) → w (mark_in LoanKind h (loan_of n)) ≡ 0) → loan_weight h w loan ≡ 0
+pub loan_zero : (w : Mark → ℕ) (h : Home) (loan : Option Lent) → ((n : Lent) → w (mark_in LoanKind h (loan_of n)) ≡ 0) → loan_weight h w loan ≡ 0
 loan_zero w h None none = refl
 loan_zero w h (Some n) none = omega (arith, none n, sum_by-cons w (mark_in LoanKind h (loan_of n)) [])
 
-pub loan_one : (w : Mark → ℕ) (h : Home) (n : ℕ) → loan_weight h w (Some n) ≡ w (mark_in LoanKind h (loan_of n))
+pub loan_one : (w : Mark → ℕ) (h : Home) (n : Lent) → loan_weight h w (Some n) ≡ w (mark_in LoanKind h (loan_of n))
 loan_one w h n = omega (arith, sum_by-cons w (mark_in LoanKind h (loan_of n)) [])
 
 -- a mark is not the loan if it is of another kind
-pub other_loan : (kind : Kind) (h : Home) (p : Held) (loan : Option ℕ) → (kind_code kind ≡ 6 → ⊥) → loan_weight h (sees (mark_in kind h p)) loan ≡ 0
+pub other_loan : (kind : Kind) (h : Home) (p : Held) (loan : Option Lent) → (kind_code kind ≡ 6 → ⊥) → loan_weight h (sees (mark_in kind h p)) loan ≡ 0
 other_loan kind h p loan apart = loan_zero (sees (mark_in kind h p)) h loan (λ n. unseen (mark_in kind h p) (mark_in LoanKind h (loan_of n)) (λ yes. apart (same_kind (mark_in kind h p) (mark_in LoanKind h (loan_of n)) yes)))

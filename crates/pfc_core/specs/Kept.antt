@@ -8,6 +8,7 @@ use Rattle.pfc_log.specs.Views.{begins, kept, stored, durable, opened, closed, b
 use Rattle.pfc_log.specs.Lawful.{Lawful, IsCached, IsOn}
 use Rattle.pfc_core.specs.declared.slot.Slot.{Slot}
 use Rattle.pfc_core.specs.declared.held.Held.{Held}
+use Rattle.pfc_core.specs.declared.loan.Lent.{Lent}
 use Rattle.pfc_core.specs.declared.file.FileCore.TheInside.{Inside}
 use Rattle.pfc_core.specs.Pins.{is_guest}
 use Rattle.pfc_core.specs.Slots.{slot_of, room_of}
@@ -16,10 +17,11 @@ use Rattle.pfc_core.specs.Owned.{IsOwned}
 use Rattle.pfc_core.specs.Out.{out_of}
 use Rattle.pfc_core.specs.Homes.{home_of}
 use Rattle.pfc_core.specs.Sets.{SetsView}
+use Rattle.pfc_core.specs.Turned.{AreTurns}
 use Rattle.pfc_core.specs.View.{CoreView}
 
 abbrev pub view_of : {W : Type 0} → Inside W → CoreView
-view_of s = record { instance = s.instance; path = s.shelf.path; size = s.shelf.size; block_size = s.shelf.block_size; first = s.log.first; entries = s.log.entries; out = out_of (home_of s.instance s.shelf) s.stays.list s.readings.list s.pins.list s.disks.list s.loan s.shelf.slots; stored = s.sets.stored; durable = s.sets.durable }
+view_of s = record { instance = s.instance; path = s.shelf.path; size = s.shelf.size; block_size = s.shelf.block_size; first = s.log.first; entries = s.log.entries; out = out_of (home_of s.instance s.shelf) s.stays.list s.readings.list s.pins.list s.disks.list s.loan s.shelf.slots; stored = s.sets.stored; durable = s.sets.durable; claimed = s.sets.claimed }
 
 -- each client is in as often as it has stays
 pub record AreIn (es : List Entry) (stays : List Held) : Type 0 where
@@ -67,20 +69,20 @@ is_found i n p = p.block == i && p.client == n
 pub record AreFound (es : List Entry) (disks : List Held) : Type 0 where
   pub each : (i n : ℕ) → times (is_device i n) es + count_by (is_found i n) disks ≤ times (is_disk_hit i n) es
 
--- only the store of a file that is cached is lent
-abbrev pub IsLent : Start → Option ℕ → Type 0
-IsLent first None = Unit {0}
-IsLent first (Some number) = IsCached first
-
 -- room for `frozen`, unless it stands
 abbrev pub alarm : SetsView → ℕ
 alarm s = if s.frozen then 0 else 1
+
+-- room for the entry of a turn
+abbrev pub turn_room : Option Lent → ℕ
+turn_room None = 0
+turn_room (Some l) = if l.turn then 1 else 0
 
 pub record IsKept {W : Type 0} (s : Inside W) : Type 0 where
   pub held : IsHeld s.log.first s.log.entries s.begun s.shelf.slots s.pins.list
   pub guests : AreIn s.log.entries s.stays.list
   pub found : AreFound s.log.entries s.disks.list
   pub said : AreSaid s.log.first s.log.entries s.sets
-  pub room : length s.stays.list + length s.readings.list + length s.pins.list + length s.disks.list + sum_by room_of s.shelf.slots + alarm s.sets ≤ s.log.room
+  pub room : length s.stays.list + length s.readings.list + length s.pins.list + length s.disks.list + sum_by room_of s.shelf.slots + alarm s.sets + turn_room s.loan ≤ s.log.room
   pub sized : IsSized s.log.first s.shelf.size s.shelf.block_size
-  pub lends : IsLent s.log.first s.loan
+  pub turns : AreTurns s.log.first s.log.entries s.sets.claimed s.loan s.claim s.visited

@@ -1,15 +1,20 @@
 -- Loans of a file's store.
-use Rattle.std.specs.Prelude.{◌≡◌, ◌<◌, ◌⊎◌, ◌==◌, ℕ, Bool, true, false, if◌then◌else◌, List, Option, Some, None, IsSome, IsTrue, sum_by, count_by, slice_set}
-use Rattle.pfc_log.specs.declared.entry.Entry.TheVariants.{Wrote, Frozen}
-use Rattle.pfc_log.specs.Lawful.{IsCached}
+use Rattle.std.specs.Prelude.{◌≡◌, ◌<◌, ◌⊎◌, ◌==◌, ℕ, Bool, true, false, if◌then◌else◌, List, Option, Some, None, IsSome, IsTrue, length, sum_by, count_by, slice_set}
+use Rattle.pfc_log.specs.declared.entry.Entry.TheVariants.{Wrote, Synced, Claimed, Frozen}
+use Rattle.pfc_log.specs.Lawful.{IsCached, IsUnfrozen}
 use Rattle.pfc_log.specs.Views.{place, is_here, times, is_frozen}
 use Rattle.pfc_store.specs.Views.{StoreView}
 use Rattle.pfc_core.specs.declared.loan.Did.{Did}
 use Rattle.pfc_core.specs.declared.loan.Did.TheVariants as did
+use Rattle.pfc_core.specs.declared.loan.Lent.{Lent}
 use Rattle.pfc_core.specs.declared.loan.NoLoan.{NoLoan}
 use Rattle.pfc_core.specs.declared.loan.NoLoan.TheVariants.{Out, NoStore}
+use Rattle.pfc_core.specs.declared.loan.Turn.{Turn}
+use Rattle.pfc_core.specs.declared.loan.Turn.TheVariants as turn
+use Rattle.pfc_core.specs.declared.loan.TurnRefusal.{TurnRefusal}
+use Rattle.pfc_core.specs.declared.loan.TurnRefusal.TheVariants as refusal
 use Rattle.pfc_core.specs.declared.token.Strayed.{Strayed}
-use Rattle.pfc_core.specs.Loans.{LoanView}
+use Rattle.pfc_core.specs.Loans.{Aim, ForBlocks, ForSync, ForPut, LoanView}
 use Rattle.pfc_core.specs.Marks.{Mark, LoanKind, kind_code, listed, Gains, Loses}
 use Rattle.pfc_core.specs.Out.{loan_of, mark_in}
 use Rattle.pfc_core.specs.Sets.{SetsView, Fits}
@@ -24,7 +29,7 @@ loans_out out = count_by is_loan out
 
 -- the blocks on disk, as the core has them
 abbrev pub sets_of : CoreView → SetsView
-sets_of v = record { stored = v.stored; durable = v.durable; frozen = if 0 == times is_frozen v.entries then false else true }
+sets_of v = record { stored = v.stored; durable = v.durable; claimed = v.claimed; frozen = if 0 == times is_frozen v.entries then false else true }
 
 -- the store is of the core's file
 pub record IsOfFile {D I : Type 0} (v : CoreView) (s : StoreView D I) : Type 0 where
@@ -37,26 +42,55 @@ abbrev pub IsHome : {D I : Type 0} → CoreView → Option (StoreView D I) → T
 IsHome v None = ⊥
 IsHome v (Some s) = IsOfFile v s
 
--- no loan was out, and the store that was at home is lent
-pub record Lends {D I : Type 0} (old : CoreView) (home : Option (StoreView D I)) (loan : LoanView D I) (new : CoreView) : Type 0 where
+-- the loan of this number that the core lends now
+abbrev pub lent_now : CoreView → ℕ → Bool → Lent
+lent_now v number for_turn = record { number = number; at = length v.entries; turn = for_turn }
+
+-- no loan was out, and the store that was at home is lent for this
+pub record LendsFor {D I : Type 0} (aim : Aim) (for_turn : Bool) (old : CoreView) (home : Option (StoreView D I)) (loan : LoanView D I) (new : CoreView) : Type 0 where
   pub cached : IsCached old.first
   pub none : loans_out old.out ≡ 0
   pub store_is : home ≡ Some loan.store
+  pub aim_is : loan.aim ≡ aim
   pub idle : loan.did ≡ did.Nothing
-  pub mine : loan.mark ≡ mark_in LoanKind (home_in old) (loan_of loan.mark.number)
+  pub mine : loan.mark ≡ mark_in LoanKind (home_in old) (loan_of (lent_now old loan.mark.number for_turn))
   pub gains : Gains old.out loan.mark new.out
   pub rest : new ≡ record old { out = new.out }
 
+-- it is lent for reads and one write
+abbrev pub Lends : {D I : Type 0} → CoreView → Option (StoreView D I) → LoanView D I → CoreView → Type 0
+Lends old home loan new = LendsFor ForBlocks false old home loan new
+
+-- what a turn's loan is for; it carries a copy of the store's head
+abbrev pub aim_at : {D I : Type 0} → Turn → StoreView D I → Aim
+aim_at turn.Data s = ForSync
+aim_at turn.Info s = ForPut s.head
+
+-- a working store is lent for a turn
+pub record LendsTurn {D I : Type 0} (for_turn : Turn) (old : CoreView) (home : Option (StoreView D I)) (loan : LoanView D I) (new : CoreView) : Type 0 where
+  pub unfrozen : IsUnfrozen old.entries
+  pub lends : LendsFor (aim_at for_turn loan.store) true old home loan new
+
+-- the loan of this number is out
+abbrev pub IsOut : CoreView → ℕ → Type 0
+IsOut v number = (lent : Lent) × (lent.number ≡ number) × (0 < listed (mark_in LoanKind (home_in v) (loan_of lent)) v.out)
+
 -- the first that fits: the file isn't cached; a loan is out; no store of the file is at home
 abbrev pub NotLent : {D I : Type 0} → CoreView → Option (StoreView D I) → NoLoan → Type 0
-NotLent old home (Out number) = IsCached old.first × (0 < listed (mark_in LoanKind (home_in old) (loan_of number)) old.out)
+NotLent old home (Out number) = IsCached old.first × IsOut old number
 NotLent old home NoStore = (IsCached old.first → ⊥) ⊎ ((loans_out old.out ≡ 0) × (IsHome old home → ⊥))
+
+-- the first that fits: the file isn't cached; the store is frozen; a loan is out; no store of the file is at home; memory
+abbrev pub NoTurn : {D I : Type 0} → CoreView → Option (StoreView D I) → TurnRefusal → Type 0
+NoTurn old home refusal.NoStore = (IsCached old.first → ⊥) ⊎ (IsUnfrozen old.entries × (loans_out old.out ≡ 0) × (IsHome old home → ⊥))
+NoTurn old home refusal.Frozen = IsCached old.first × (IsUnfrozen old.entries → ⊥)
+NoTurn old home (refusal.Out number) = IsCached old.first × IsUnfrozen old.entries × IsOut old number
+NoTurn old home refusal.Memory = IsCached old.first × IsUnfrozen old.entries × (loans_out old.out ≡ 0) × IsHome old home
 
 -- a block that was written is in memory
 abbrev pub IsInMemory : CoreView → Did → Type 0
 IsInMemory v (did.Wrote i) = IsTrue (is_here (place i v.entries))
-IsInMemory v did.Nothing = Unit {0}
-IsInMemory v did.Broke = Unit {0}
+IsInMemory v _ = Unit {0}
 
 -- what the loan did may be entered: it was lent with the core's sets, and what it wrote is in memory
 pub record IsEnterable {D I : Type 0} (v : CoreView) (loan : LoanView D I) : Type 0 where
@@ -76,16 +110,26 @@ pub record EntersWrite (old : CoreView) (i : ℕ) (new : CoreView) : Type 0 wher
 abbrev pub with_frozen : CoreView → CoreView
 with_frozen v = record (entered v Frozen v.out) { stored = v.durable }
 
-abbrev pub with_did : CoreView → Did → CoreView
-with_did v did.Nothing = v
-with_did v (did.Wrote i) = with_written v i
-with_did v did.Broke = with_frozen v
+-- each written block is durable
+abbrev pub with_synced : CoreView → CoreView
+with_synced v = record (entered v Synced v.out) { durable = v.stored }
+
+-- the cinfo claims what is durable, by a loan that was lent at this place
+abbrev pub with_claimed : CoreView → ℕ → CoreView
+with_claimed v at = record (entered v (Claimed at (count_by (λ member. member) v.durable)) v.out) { claimed = v.durable }
+
+abbrev pub with_did : CoreView → ℕ → Did → CoreView
+with_did v at did.Nothing = v
+with_did v at (did.Wrote i) = with_written v i
+with_did v at did.Synced = with_synced v
+with_did v at did.Claimed = with_claimed v at
+with_did v at did.Broke = with_frozen v
 
 -- the loan comes back, and what it did is entered
 pub record Gives {D I : Type 0} (old : CoreView) (loan : LoanView D I) (new : CoreView) : Type 0 where
   pub enterable : IsEnterable old loan
   pub loses : Loses old.out loan.mark new.out
-  pub enters : new ≡ record (with_did old loan.did) { out = new.out }
+  pub enters : new ≡ record (with_did old loan.mark.flight loan.did) { out = new.out }
 
 -- The core's list has no such loan, or it was lent with other sets, or it wrote a block that isn't in memory, or a store is
 -- at home already.

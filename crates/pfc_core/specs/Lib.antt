@@ -28,3 +28,5 @@ pub mod Jobs
 pub mod Disks
 pub mod Pinned
 pub mod OpenJobs
+pub mod Turns
+pub mod Turned

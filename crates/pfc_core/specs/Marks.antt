@@ -21,7 +21,8 @@ kind_code DiskKind = 5
 kind_code LoanKind = 6
 
 -- The core that gave it out, its number among those of its kind, whose it is, the file with its block size, the block and
--- the flight that it is about, and the client that began the flight. For a ticket and a job the number is the flight's.
+-- the flight that it is about, and the client that began the flight. For a ticket and a job the number is the flight's; for a
+-- loan the flight is how many entries the log had as it was lent, and the owner is 1 where it was lent for a turn.
 pub record Mark : Type 0 where
   pub kind : Kind
   pub instance : ℕ

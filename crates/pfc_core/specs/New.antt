@@ -5,7 +5,7 @@ use Rattle.pfc_log.specs.declared.start.Start.TheVariants as start
 use Rattle.pfc_log.specs.declared.entry.Uncached.{Uncached}
 use Rattle.pfc_core.specs.View.{CoreView}
 
--- nothing has happened, these blocks are on disk for good, and no token is out
+-- nothing has happened, these blocks are on disk for good and claimed, and no token is out
 pub record IsNew (instance : ℕ) (path : List ℕ) (size k : ℕ) (set : List Bool) (v : CoreView) : Type 0 where
   pub instance_is : v.instance ≡ instance
   pub path_is : v.path ≡ path
@@ -14,6 +14,7 @@ pub record IsNew (instance : ℕ) (path : List ℕ) (size k : ℕ) (set : List B
   pub start : v.first ≡ Stored set
   pub stored_is : v.stored ≡ set
   pub durable_is : v.durable ≡ set
+  pub claimed_is : v.claimed ≡ set
   pub entries : v.entries ≡ []
   pub out : v.out ≡ []
 
@@ -26,5 +27,6 @@ pub record IsNewUncached (instance : ℕ) (path : List ℕ) (size k : ℕ) (why 
   pub start : v.first ≡ start.Uncached why
   pub stored_is : v.stored ≡ []
   pub durable_is : v.durable ≡ []
+  pub claimed_is : v.claimed ≡ []
   pub entries : v.entries ≡ []
   pub out : v.out ≡ []

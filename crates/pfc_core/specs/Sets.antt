@@ -3,16 +3,18 @@ use Rattle.std.specs.Prelude.{ℕ, ◌≡◌, ◌<◌, Bool, true, false, List, 
 use Rattle.pfc_base.specs.BlockSet.{is_member}
 use Rattle.pfc_store.specs.Views.{StoreView}
 use Rattle.pfc_core.specs.declared.loan.Did.{Did}
-use Rattle.pfc_core.specs.declared.loan.Did.TheVariants.{Nothing, Wrote, Broke}
+use Rattle.pfc_core.specs.declared.loan.Did.TheVariants.{Nothing, Wrote, Synced, Claimed, Broke}
 
--- those that can be read, those that no crash can take, and whether the store is frozen
+-- those that can be read, those that no crash can take, those that the cinfo claims, and whether the store is frozen
 pub record SetsView : Type 0 where
   pub stored : List Bool
   pub durable : List Bool
+  pub claimed : List Bool
   pub frozen : Bool
 
-pub record AreSets (stored durable spare : List Bool) : Type 0 where
+pub record AreSets (stored durable claimed spare : List Bool) : Type 0 where
   pub durable_is : length durable ≡ length stored
+  pub claimed_is : length claimed ≡ length stored
   pub spare_is : length spare ≡ length stored
 
 -- the store did nothing that is to be entered: it has the blocks of these sets, or once it is frozen those that are durable
@@ -29,6 +31,12 @@ pub record FitsWritten {D I : Type 0} (s : SetsView) (store : StoreView D I) (i 
   pub absent : is_member s.stored i ≡ false
   pub written_is : store.written ≡ slice_set s.stored i true
 
+-- the store was synced, or its cinfo was put
+pub record FitsTurned {D I : Type 0} (s : SetsView) (store : StoreView D I) : Type 0 where
+  pub thawed : s.frozen ≡ false
+  pub working : store.frozen ≡ None
+  pub written_is : store.written ≡ s.stored
+
 -- the store froze
 pub record FitsBroken {D I : Type 0} (s : SetsView) (store : StoreView D I) : Type 0 where
   pub thawed : s.frozen ≡ false
@@ -38,10 +46,25 @@ pub record FitsBroken {D I : Type 0} (s : SetsView) (store : StoreView D I) : Ty
 abbrev pub FitsDid : {D I : Type 0} → SetsView → StoreView D I → Did → Type 0
 FitsDid s store Nothing = FitsAsLent s store
 FitsDid s store (Wrote i) = FitsWritten s store i
+FitsDid s store Synced = FitsTurned s store
+FitsDid s store Claimed = FitsTurned s store
 FitsDid s store Broke = FitsBroken s store
+
+-- what no crash can take once a store did this, and what its cinfo claims
+abbrev pub durable_by : SetsView → Did → List Bool
+durable_by s Synced = s.stored
+durable_by s _ = s.durable
+
+abbrev pub claimed_by : SetsView → Did → List Bool
+claimed_by s Claimed = s.durable
+claimed_by s _ = s.claimed
+
+pub record FitsDurable {D I : Type 0} (s : SetsView) (store : StoreView D I) (did : Did) : Type 0 where
+  pub durable_is : store.durable ≡ durable_by s did
+  pub claimed_is : store.claimed ≡ claimed_by s did
 
 -- as the store was lent it had the blocks of these sets, and what it did since may be entered
 pub record Fits {D I : Type 0} (s : SetsView) (store : StoreView D I) (did : Did) : Type 0 where
   pub bound : length store.written ≡ length s.stored
-  pub durable_is : store.durable ≡ s.durable
+  pub safe : FitsDurable s store did
   pub did_is : FitsDid s store did

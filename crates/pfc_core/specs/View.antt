@@ -9,7 +9,7 @@ use Rattle.pfc_core.specs.Marks.{Mark}
 use Rattle.pfc_core.specs.Out.{Home}
 
 -- its number, its file with the block size, its log, the marks of all tokens that are out, the blocks that can be read from
--- disk, and those of them that no crash can take
+-- disk, those of them that no crash can take, and those that the cinfo claims
 pub record CoreView : Type 0 where
   pub instance : ℕ
   pub path : List ℕ
@@ -20,6 +20,7 @@ pub record CoreView : Type 0 where
   pub out : List Mark
   pub stored : List Bool
   pub durable : List Bool
+  pub claimed : List Bool
 
 abbrev pub home_in : CoreView → Home
 home_in v = record { instance = v.instance; path = v.path; size = v.size; block_size = v.block_size }

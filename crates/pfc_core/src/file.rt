@@ -1,7 +1,7 @@
 // The state of one opening of one file.
 ghost use Rattle.std.specs.Prelude.{◌≡◌, ◌+◌, ◌*◌, ◌<◌, ◌≤◌, ◌↔◌, ◌^◌, ℕ, [], length, false, IsTrue, IfOk, OnOk, OnErr, IfErr, IfSome, sum_by, ◌==◌, ◌&&◌};
 ghost use Rattle.pfc_base.specs.BlockSet.{is_member};
-ghost use Rattle.pfc_log.specs.Views.{stored, durable, bound};
+ghost use Rattle.pfc_log.specs.Views.{stored, durable, claimed, bound};
 ghost use Rattle.pfc_log.specs.Lawful.{Lawful, IsComplete};
 ghost use Rattle.pfc_core.specs.View.{CoreView, why_of};
 ghost use Rattle.pfc_core.specs.Lending.{loans_out};
@@ -15,8 +15,10 @@ mod loans;
 mod make;
 mod pins;
 mod reads;
+mod turns;
 
 use crate::held::Tokens;
+use crate::loan::Lent;
 use crate::sets::Sets;
 use crate::shelf::Shelf;
 use crate::token::{Reading, Stay, Strayed, is_of, stranger, tag_of};
@@ -25,8 +27,8 @@ use pfc_log::{Entry, FileLog, Start, Uncached};
 use pfc_world::{Known, World};
 use std::marker::Model;
 
-/// The core of one opening of one file: its number, its file with the block size, its log, what it gave out, and which blocks
-/// are on disk. The file's store is kept beside it.
+/// The core of one opening of one file: its number, its file with the block size, its log, what it gave out, which blocks
+/// are on disk, which place the last claim names, and the place behind the last visit. The file's store is kept beside it.
 #[derive(Drop)]
 pub struct FileCore<W: World> {
     instance: u64,
@@ -37,9 +39,11 @@ pub struct FileCore<W: World> {
     readings: Tokens,
     pins: Tokens,
     disks: Tokens,
-    loan: Option<u64>,
+    loan: Option<Lent>,
     lent: u64,
     begun: u64,
+    claim: Option<u64>,
+    visited: u64,
 }
 
 impl<W: World> Model for FileCore<W> {
@@ -105,12 +109,12 @@ fn make_room<W: World>(
     ensures kept { log.old.room ≤ log.new.room }
     ensures token { OnOk result (0 < tokens.new.room) }
     ensures few { OnOk result (length tokens.old.list < 2 ^ 63) }
-    ensures room { OnOk result (length tokens.old.list + others + 4 * length shelf.now.slots + 7 ≤ log.new.room) }
+    ensures room { OnOk result (length tokens.old.list + others + 4 * length shelf.now.slots + 8 ≤ log.new.room) }
 {
     let Some(owed) = owed(tokens.len(), others, shelf.len()) else {
         return Err(Memory);
     };
-    log.reserve(owed + 6)?;
+    log.reserve(owed + 7)?;
     tokens.reserve()
 }
 
@@ -173,6 +177,7 @@ impl<W: World> FileCore<W> {
         make_room(&mut self.log, &mut self.stays, others, &self.shelf)?;
         let held = self.stays.add(n, 0, 0, 0);
         self.log.push(Entry::Opened { client: n });
+        self.visited = self.log.len();
         Ok(Stay {
             tag: tag_of(self.instance, &self.shelf, held),
         })
@@ -194,6 +199,7 @@ impl<W: World> FileCore<W> {
         self.log.push(Entry::Closed {
             client: held.client,
         });
+        self.visited = self.log.len();
         Ok(())
     }
 
@@ -261,7 +267,8 @@ impl<W: World> FileCore<W> {
         ensures loan { loans_out self.now.out ≤ 1 }
         ensures stored { (i : ℕ) → is_member self.now.stored i ≡ stored self.now.first i self.now.entries }
         ensures durable { (i : ℕ) → is_member self.now.durable i ≡ durable self.now.first i self.now.entries }
-        ensures bounds { (length self.now.stored ≡ bound self.now.first) × (length self.now.durable ≡ bound self.now.first) }
+        ensures claimed { (i : ℕ) → is_member self.now.claimed i ≡ claimed self.now.first i self.now.entries }
+        ensures bounds { (length self.now.stored ≡ bound self.now.first) × (length self.now.durable ≡ bound self.now.first) × (length self.now.claimed ≡ bound self.now.first) }
     {
         let _all = self.stays.len();
     }

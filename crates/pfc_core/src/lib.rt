@@ -16,6 +16,6 @@ mod token;
 pub use file::{FileCore, Retired};
 pub use leave::Leave;
 pub use line::{Flight, Line};
-pub use loan::{Did, Loan, NoLoan};
+pub use loan::{Did, Loan, NoLoan, Turn, TurnRefusal};
 pub use look::Look;
 pub use token::{Decision, Job, OnDisk, Pin, Reading, Stay, Strayed, Ticket, Twin};

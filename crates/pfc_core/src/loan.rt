@@ -6,12 +6,14 @@ ghost use Rattle.pfc_world.specs.Disk.{IsImage};
 ghost use Rattle.pfc_world.specs.Files.{Holds};
 ghost use Rattle.pfc_world.specs.Info.{IsMain};
 ghost use Rattle.pfc_core.specs.declared.loan.Did.TheVariants as did;
-ghost use Rattle.pfc_core.specs.Loans.{IsLoan, ReadsLent, WritesLent};
+ghost use Rattle.pfc_core.specs.Loans.{IsLoan, IsPut, IsSync, PutsLent, ReadsLent, SyncsLent, WritesLent, turn_of};
 
 use crate::tag::Tag;
 use pfc_base::Part;
-use pfc_store::{FileStore, Put, ReadRefusal, WriteRefusal};
+use pfc_cinfo::Head;
+use pfc_store::{FileStore, InfoPutRefusal, Put, ReadRefusal, SyncRefusal, WriteRefusal};
 use pfc_world::{Block, DataDev, InfoDev, Known, World};
+use std::alloc::Global;
 use std::marker::Model;
 
 /// What a loan did that its core is to enter.
@@ -20,8 +22,42 @@ pub enum Did {
     Nothing,
     /// It wrote this block.
     Wrote(u32),
-    /// A write failed, which froze the store.
+    /// It made each written block durable.
+    Synced,
+    /// It put a cinfo that claims what is durable.
+    Claimed,
+    /// A write, a sync or a put failed, which froze the store.
     Broke,
+}
+
+/// What the turn of a sync is for.
+#[derive(Clone, Copy, Debug, PartialEq, Eq)]
+pub enum Turn {
+    /// To make each written block durable.
+    Data,
+    /// To put a cinfo that claims what is durable.
+    Info,
+}
+
+/// What a loan is for.
+#[derive(Drop)]
+pub(crate) enum Purpose {
+    /// Reads, and one write.
+    Blocks,
+    /// One sync of the data.
+    Sync,
+    /// One put of a cinfo with this head.
+    Put(Head),
+}
+
+/// What a core keeps of the loan that is out.
+#[derive(Clone, Copy, Debug, PartialEq, Eq)]
+pub(crate) struct Lent {
+    pub number: u64,
+    /// How many entries the log had.
+    pub at: u64,
+    /// Whether it was lent for a turn, whose entry has its room.
+    pub turn: bool,
 }
 
 /// Why no store is lent.
@@ -33,23 +69,37 @@ pub enum NoLoan {
     NoStore,
 }
 
-/// The store of a core's file, lent for reads and one write. It must be given back.
+/// Why no store is lent for a turn.
+#[derive(Clone, Copy, Debug, PartialEq, Eq, Drop)]
+pub enum TurnRefusal {
+    /// The file isn't cached, or no store of it is at home.
+    NoStore,
+    /// A device failed other than in a read, so nothing is written any more.
+    Frozen,
+    /// The loan of this number is out.
+    Out { number: u64 },
+    /// There is no memory for the head of the cinfo, or for the turn's entry.
+    Memory,
+}
+
+/// The store of a core's file, lent for reads and one write, for one sync, or for one put. It must be given back.
 pub struct Loan<W: World, D: DataDev<W>, I: InfoDev<W>> {
     pub(crate) tag: Tag<W>,
     pub(crate) store: FileStore<W, D, I>,
+    pub(crate) purpose: Purpose,
     pub(crate) did: Did,
 }
 
 impl<W: World, D: DataDev<W>, I: InfoDev<W>> Model for Loan<W, D, I> {
-    ghost use Rattle.pfc_core.specs.Loans.{LoanView, IsLoan};
+    ghost use Rattle.pfc_core.specs.Loans.{LoanView, aim_of, IsWhole};
     ghost use Rattle.pfc_core.specs.Marks.{LoanKind};
     ghost use Rattle.pfc_core.specs.Tags.{mark_of};
 
     ghost Value = { LoanView D I };
 
-    ghost view = { λ l. record { mark = mark_of LoanKind l.tag; store = l.store; did = l.did } };
+    ghost view = { λ l. record { mark = mark_of LoanKind l.tag; store = l.store; aim = aim_of l.purpose; did = l.did } };
 
-    ghost invariant = { λ l. IsLoan (mark_of LoanKind l.tag) l.store };
+    ghost invariant = { λ l. IsWhole (mark_of LoanKind l.tag) l.store (aim_of l.purpose) l.did };
 }
 
 impl<W: World, D: DataDev<W>, I: InfoDev<W>> Loan<W, D, I> {
@@ -75,6 +125,17 @@ impl<W: World, D: DataDev<W>, I: InfoDev<W>> Loan<W, D, I> {
         let _did = self.did;
     }
 
+    /// What it was lent for: a turn, or reads and one write.
+    pub fn turn(&self) -> Option<Turn>
+        ensures { result ≡ turn_of self.now.aim }
+    {
+        match &self.purpose {
+            Purpose::Blocks => None,
+            Purpose::Sync => Some(Turn::Data),
+            Purpose::Put(_) => Some(Turn::Info),
+        }
+    }
+
     /// What it did that its core is to enter.
     pub fn did(&self) -> Did
         ensures { result ≡ self.now.did }
@@ -89,8 +150,14 @@ impl<W: World, D: DataDev<W>, I: InfoDev<W>> Loan<W, D, I> {
         ensures second { result.1 ≡ self.store.second }
         ensures sound { IsTrue W.told → IsTrue D.told → IsTrue I.told → AllSound W.files self.store.path (IsImage (D.seen result.0).now) (IsMain (I.seen result.1).now) }
     {
-        let Loan { tag, store, did: _ } = self;
+        let Loan {
+            tag,
+            store,
+            purpose,
+            did: _,
+        } = self;
         drop(tag);
+        drop(purpose);
         store.parts()
     }
 
@@ -118,6 +185,40 @@ impl<W: World, D: DataDev<W>, I: InfoDev<W>> Loan<W, D, I> {
             Ok(Put::Wrote) => self.did = Did::Wrote(block.number()),
             Err(WriteRefusal::Device(_)) => self.did = Did::Broke,
             Ok(Put::AlreadyThere) | Err(WriteRefusal::Frozen(_)) => (),
+        }
+        answer
+    }
+
+    /// Makes each written block durable, by one sync of the data.
+    pub fn sync_data(&mut self) -> Result<(), SyncRefusal>
+        requires turn { IsSync self.old.aim }
+        requires once { self.old.did ≡ did.Nothing }
+        ensures { SyncsLent W.told W.files D.told I.told D.faults D.seen I.seen self.old result self.new }
+    {
+        let answer = self.store.sync_data();
+        match answer {
+            Ok(()) => self.did = Did::Synced,
+            Err(SyncRefusal::Device(_)) => self.did = Did::Broke,
+            Err(SyncRefusal::Frozen(_)) => (),
+        }
+        answer
+    }
+
+    /// Puts a cinfo with the head that the loan carries, which claims what is durable. It takes memory for the cinfo's bytes,
+    /// before any call on the device.
+    pub fn put_info(&mut self, alloc: Global) -> Result<(), InfoPutRefusal>
+        requires turn { IsPut self.old.aim }
+        requires once { self.old.did ≡ did.Nothing }
+        ensures { PutsLent W.told W.files D.told I.told I.faults D.seen I.seen self.old result self.new }
+    {
+        let Purpose::Put(head) = &self.purpose else {
+            unreachable!()
+        };
+        let answer = self.store.put_info(alloc, head);
+        match answer {
+            Ok(()) => self.did = Did::Claimed,
+            Err(InfoPutRefusal::Device(_)) => self.did = Did::Broke,
+            Err(InfoPutRefusal::Memory) | Err(InfoPutRefusal::Frozen(_)) => (),
         }
         answer
     }

@@ -48,6 +48,7 @@ caused-added told files k capacity lines before count faults faults' report caus
   failed = All-weaker _ _ (λ c. failures-added c.number (asked c.number lines) c.replies report.logs (before c.number).1 (count c.number).1) report.clients caused.failed;
   disk = caused.disk;
   full = caused.full;
+  claimed = caused.claimed;
   others = λ n none. unasked-added n report.logs (before n) (count n) (caused.others n none);
 }
 
@@ -75,5 +76,6 @@ caused-earlier told files k capacity lines before after faults mid faults' repor
   failed = caused.failed;
   disk = rose_by-earlier faults mid faults' _ low caused.disk;
   full = caused.full;
+  claimed = caused.claimed;
   others = caused.others;
 }

@@ -14,6 +14,8 @@ mod disk_cases;
 #[cfg(test)]
 mod outside;
 #[cfg(test)]
+mod restart_cases;
+#[cfg(test)]
 mod shared_cases;
 #[cfg(test)]
 mod tests;

@@ -1,12 +1,14 @@
 //! The outside of the tests' runs.
 ghost use Rattle.std.specs.Prelude.{◌≡◌, ℕ, List, [], IfOk, refl};
 ghost use Rattle.pfc_world.specs.Depot.{AllSound};
-ghost use Rattle.pfc_world.specs.Files.{Files};
 ghost use Rattle.pfc_memory.specs.Depot.{data_home, main_home, out_of};
+ghost use Rattle.pfc_memory.specs.Rows.{row_files};
 
 use crate::run_replay;
 use pfc_base::Path;
-use pfc_memory::{ListClock, MemoryData, MemoryDepot, MemoryHost, MemoryInfo, RowWorld, VecSink};
+use pfc_memory::{
+    ListClock, MemoryData, MemoryDepot, MemoryHost, MemoryInfo, Pick, RowWorld, VecSink,
+};
 use pfc_world::{Depot, Refusal, Taken};
 use std::alloc::Global;
 use std::test::Fail;
@@ -44,12 +46,12 @@ pub fn words_of(alloc: Global, line: &str) -> Result<Vec<String>, Fail> {
 /// A depot with nothing in it, of whose device calls these fail, and all from the fuse on.
 pub fn empty_depot(alloc: Global, breaks: &[u64], fuse: Option<u64>) -> Result<MemoryDepot, Fail>
     ensures home { IfOk result (λ depot. out_of depot.volumes.items ≡ []) }
-    ensures sound { IfOk result (λ depot. (files : Files) (path : List ℕ) → AllSound files path (data_home depot.volumes.items path) (main_home depot.volumes.items path)) }
+    ensures sound { IfOk result (λ depot. (path : List ℕ) → AllSound row_files path (data_home depot.volumes.items path) (main_home depot.volumes.items path)) }
 {
     Ok(MemoryDepot::new(alloc, Vec::from_slice(alloc, breaks)?, fuse)?)
 }
 
-/// Runs a schedule over a depot with nothing in it, where the clock always tells 0.
+/// Runs a schedule over a depot whose volumes are home and sound, which they are afterwards too. The clock always tells 0.
 pub fn run_over(
     alloc: Global,
     words: &[String],
@@ -58,12 +60,24 @@ pub fn run_over(
     out: &mut VecSink,
 ) -> u8
     requires home { out_of depot.old.volumes.items ≡ [] }
-    requires sound { (files : Files) (path : List ℕ) → AllSound files path (data_home depot.old.volumes.items path) (main_home depot.old.volumes.items path) }
+    requires sound { (path : List ℕ) → AllSound row_files path (data_home depot.old.volumes.items path) (main_home depot.old.volumes.items path) }
+    ensures home { out_of depot.new.volumes.items ≡ [] }
+    ensures sound { (path : List ℕ) → AllSound row_files path (data_home depot.new.volumes.items path) (main_home depot.new.volumes.items path) }
 {
     let mut clock = ListClock::new(Vec::new(alloc));
     run_replay::<RowWorld, MemoryHost<RowWorld>, MemoryDepot, ListClock, VecSink>(
         alloc, words, host, depot, &mut clock, out,
     )
+}
+
+/// What a crash leaves of a depot whose volumes are home and sound.
+pub fn crashed(alloc: Global, depot: MemoryDepot, pick: Pick) -> Result<MemoryDepot, Fail>
+    requires home { out_of depot.volumes.items ≡ [] }
+    requires sound { (path : List ℕ) → AllSound row_files path (data_home depot.volumes.items path) (main_home depot.volumes.items path) }
+    ensures home { IfOk result (λ left. out_of left.volumes.items ≡ []) }
+    ensures sound { IfOk result (λ left. (path : List ℕ) → AllSound row_files path (data_home left.volumes.items path) (main_home left.volumes.items path)) }
+{
+    Ok(depot.crash(alloc, pick)?)
 }
 
 /// A depot that can't be listed, and has no volume.

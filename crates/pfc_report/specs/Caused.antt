@@ -8,7 +8,7 @@ use Rattle.pfc_client.specs.Told.{stats, lost, opens, reads, bytes}
 use Rattle.pfc_base.specs.Block.{count_of}
 use Rattle.pfc_log.specs.Charges.{charges, is_there}
 use Rattle.pfc_log.specs.Uncaching.{cause_of}
-use Rattle.pfc_log.specs.Views.{times}
+use Rattle.pfc_log.specs.Views.{times, stored, claimed}
 use Rattle.pfc_log.specs.Waiting.{is_worked, WasFull}
 use Rattle.pfc_log.specs.declared.entry.DropCause.TheVariants as cause
 use Rattle.pfc_log.specs.declared.entry.Entry.{Entry}
@@ -17,7 +17,7 @@ use Rattle.pfc_log.specs.declared.entry.Uncached.{Uncached}
 use Rattle.pfc_log.specs.declared.entry.Uncached.TheVariants.{Volume}
 use Rattle.pfc_log.specs.declared.start.Start.{Start}
 use Rattle.pfc_log.specs.declared.start.Start.TheVariants as start
-use Rattle.pfc_log.specs.Lawful.{IsComplete, IsCached}
+use Rattle.pfc_log.specs.Lawful.{IsComplete, IsCached, IsUnfrozen}
 use Rattle.pfc_log.specs.Tallies.{Tally, tally, nothing}
 use Rattle.pfc_report.specs.declared.report.Told.{Told}
 use Rattle.pfc_report.specs.declared.report.Section.{Section}
@@ -122,6 +122,11 @@ pub record IsDroppedFull (capacity : ℕ) (logs : List Section) (x i c : ℕ) (b
 abbrev pub AreDroppedFull : ℕ → List Section → Type 0
 AreDroppedFull capacity logs = (x p i c : ℕ) (d : Section) → x < length logs → slice_get (slice_index_or logs x d).log.entries p ≡ Some (Dropped i (cause.Full c)) → IsDroppedFull capacity logs x i c (take p (slice_index_or logs x d).log.entries)
 
+-- Of a log that starts with a store, of which nothing failed other than a read, the cinfo claims what can be read from disk at the
+-- end, and nothing else.
+abbrev pub AreClaimed : List Section → Type 0
+AreClaimed logs = All (λ section. IsCached section.log.first → IsUnfrozen section.log.entries → (i : ℕ) → claimed section.log.first i section.log.entries ≡ stored section.log.first i section.log.entries) logs
+
 -- The report is caused: of files of this world, in blocks of k bytes, with a write queue of so many jobs, for what the schedule says. The counts of the clients' links were and are
 -- these, and the depot's count of faults was and is.
 pub record IsCausedReport (told : Bool) (files : Files) (k capacity : ℕ) (lines : List Line) (before after : Spent) (faults faults' : ℕ) (report : ReportView) : Type 0 where
@@ -133,4 +138,5 @@ pub record IsCausedReport (told : Bool) (files : Files) (k capacity : ℕ) (line
   pub failed : All (λ c. AreItsFailures c.number (asked c.number lines) c.replies report.logs (before c.number).1 (after c.number).1) report.clients
   pub disk : AreDiskFailures report.logs faults faults'
   pub full : AreDroppedFull capacity report.logs
+  pub claimed : AreClaimed report.logs
   pub others : (n : ℕ) → asked n lines ≡ [] → IsUnasked n report.logs (before n) (after n)

@@ -1,7 +1,7 @@
 -- What a step of a plan is, and why a text is none.
 use Rattle.std.specs.Prelude.{◌≡◌, ℕ, List, [], Option, Some, None, Result, Err}
 use Rattle.pfc_base.specs.Pieces.{pieces_of}
-use Rattle.pfc_report.specs.Schedule.{Line, Ask, Go, Write}
+use Rattle.pfc_report.specs.Schedule.{Line, Ask, Go, Write, Sync}
 use Rattle.pfc_report.specs.declared.schedule.Step.{Step}
 use Rattle.pfc_report.specs.declared.schedule.Step.TheVariants as step
 use Rattle.pfc_report.specs.declared.schedule.ScheduleRefusal.{ScheduleRefusal}
@@ -11,6 +11,7 @@ abbrev pub line_of : Step → Line
 line_of (step.Ask client rest) = Ask client rest.now
 line_of (step.Go client times) = Go client times
 line_of (step.Write writer times) = Write writer times
+line_of (step.Sync path times) = Sync path.now times
 
 -- the words behind a separator, and none where it doesn't stand
 abbrev pub words_behind : Option (List ℕ) → List (List ℕ)

@@ -3,13 +3,16 @@ use Rattle.std.specs.Prelude.{ℕ, ◌==◌, ◌+◌, nat_lt, nat_le, Bool, ◌&
 use Rattle.std.specs.List.{join_with_byte, range_with_len}
 use Rattle.pfc_base.specs.Pieces.{pieces_of}
 use Rattle.pfc_base.specs.Number.{decimal_of}
+use Rattle.pfc_base.specs.Path.{is_path}
 use Rattle.pfc_client.specs.Requests.{is_word}
 
--- A line that does something: it adds a request to those of a client, or a client or a writer makes so many steps.
+-- A line that does something: it adds a request to those of a client, or a client, a writer or the sync of a path makes so many
+-- steps.
 pub data Line : Type 0 where
   Ask : (client : ℕ) (rest : List ℕ) → Line
   Go : (client times : ℕ) → Line
   Write : (writer times : ℕ) → Line
+  Sync : (path : List ℕ) (times : ℕ) → Line
 
 -- the decimal that a word spells, where it lies from 1 to this
 abbrev pub decimal_to : ℕ → List ℕ → Option ℕ
@@ -34,6 +37,10 @@ stepping line (Some n) [] = Some (line n 1)
 stepping line (Some n) (k ∷ []) = option_map (line n) (times_of k)
 stepping line (Some n) (k ∷ other ∷ words) = None
 
+-- and the same of a path
+abbrev pub path_stepping : (List ℕ → ℕ → Line) → List ℕ → List (List ℕ) → Option Line
+path_stepping line path words = if is_path path then stepping (λ n k. line path k) (Some 0) words else None
+
 -- the line of these words, if they have a line's form, where there are so many writers
 abbrev pub line_by : ℕ → List (List ℕ) → Option Line
 line_by writers [] = None
@@ -42,6 +49,7 @@ line_by writers (verb ∷ number ∷ words) =
     if is_word verb (codes "ask") then asking (client_of number) words
     else if is_word verb (codes "go") then stepping Go (client_of number) words
     else if is_word verb (codes "write") then stepping Write (decimal_to writers number) words
+    else if is_word verb (codes "sync") then path_stepping Sync number words
     else None
 
 -- what one line says: nothing where it is empty or a remark, one thing, or it has no line's form
@@ -75,6 +83,7 @@ abbrev pub request_for : ℕ → Line → Option (List ℕ)
 request_for n (Ask m rest) = if m == n then Some rest else None
 request_for n (Go m times) = None
 request_for n (Write w times) = None
+request_for n (Sync path times) = None
 
 -- what client n is asked, in order
 abbrev pub asked : ℕ → List Line → List (List ℕ)

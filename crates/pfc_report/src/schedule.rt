@@ -1,10 +1,10 @@
 ghost use Rattle.std.specs.Prelude.{◌≡◌, ℕ, ◌++◌, [], ◌<◌, ◌≤◌, length, option_map, map, Some, Ok, Err, IfOk, IfErr, OnOk, false, ◌||◌, is_some, slice_index_or};
 ghost use Rattle.pfc_base.specs.Pieces.{pieces_of};
-ghost use Rattle.pfc_report.specs.Schedule.{Line, decimal_to, client_of, asking, stepping, line_by, said_by, said_first, all_said, schedule_of, is_asked, request_for};
+ghost use Rattle.pfc_report.specs.Schedule.{Line, Sync, path_stepping, decimal_to, client_of, asking, stepping, line_by, said_by, said_first, all_said, schedule_of, is_asked, request_for};
 ghost use Rattle.pfc_report.specs.Plan.{line_of, words_behind, Refuses};
 ghost use Rattle.pfc_report.specs.declared.schedule.ScheduleRefusal.TheVariants as refusal;
 
-use pfc_base::{decimal, next_piece};
+use pfc_base::{Path, decimal, next_piece};
 use std::alloc::{AllocFailed, Global};
 use std::marker::Model;
 
@@ -23,6 +23,8 @@ pub enum Step<'a> {
     Go { client: u32, times: u32 },
     /// The writer, from 1 on, makes so many steps, from 1 to 10000.
     Write { writer: u32, times: u32 },
+    /// The sync makes so many steps, from 1 to 10000, where it is at rest or at this path.
+    Sync { path: &'a [u8], times: u32 },
 }
 
 /// What a schedule says, in order. Contracts see the list of its lines that do something.
@@ -94,6 +96,7 @@ fn mark_asked(marks: &mut [bool], step: &Step<'_>)
     match step {
         Step::Go { .. } => (),
         Step::Write { .. } => (),
+        Step::Sync { .. } => (),
         Step::Ask { client, .. } => {
             if *client < 65 {
                 marks[*client as usize] = true;
@@ -162,6 +165,23 @@ fn read_steps(number: &[u8], most: u32, behind: Option<&[u8]>) -> Option<(u32, u
     }
 }
 
+/// What a `sync` line says, by its path and what stands behind the space after it.
+fn read_sync<'a>(path: &'a [u8], behind: Option<&'a [u8]>) -> Option<Step<'a>>
+    ensures { option_map line_of result ≡ path_stepping Sync path.now (words_behind (option_map (λ rest. rest.now) behind.entry)) }
+{
+    if Path::read(path).is_err() {
+        return None;
+    }
+    let behind = match behind {
+        None => return Some(Step::Sync { path, times: 1 }),
+        Some(behind) => behind,
+    };
+    match read_times(behind) {
+        None => None,
+        Some(times) => Some(Step::Sync { path, times }),
+    }
+}
+
 /// What a line says that isn't passed over, by its words.
 fn read_step(line: &[u8], writers: u32) -> Option<Step<'_>>
     ensures { option_map line_of result ≡ line_by writers (pieces_of 32 line.now) }
@@ -186,6 +206,9 @@ fn read_step(line: &[u8], writers: u32) -> Option<Step<'_>>
             None => None,
             Some((writer, times)) => Some(Step::Write { writer, times }),
         };
+    }
+    if verb == b"sync".as_slice() {
+        return read_sync(number, words);
     }
     None
 }

@@ -31,6 +31,13 @@ fn writes(step: &Step<'_>, number: u32, count: u32) -> bool {
     }
 }
 
+fn syncs(step: &Step<'_>, place: &[u8], count: u32) -> bool {
+    match step {
+        Step::Sync { path, times } => *path == place && *times == count,
+        _ => false,
+    }
+}
+
 #[test]
 fn a_schedule_of_each_form_is_read(rt: HostRuntime) -> Result<(), Fail> {
     let text = "# a remark\n\nask 1 open 0 /a\ngo 64\nask 64 \ngo 2 10000\nask 3  two  spaces ";
@@ -68,6 +75,23 @@ fn writers_write_once_or_so_often(rt: HostRuntime) -> Result<(), Fail> {
 }
 
 #[test]
+fn a_path_is_synced_once_or_so_often(rt: HostRuntime) -> Result<(), Fail> {
+    let text = "sync /a\nsync /a 10000\nsync /data/run.7 2";
+    let plan = match read_schedule(rt.alloc(), text.as_bytes(), 0) {
+        Ok(plan) => plan,
+        Err(_) => return Err(Fail::from("refused")),
+    };
+    let steps = plan.steps();
+    assert_eq!(rt; steps.len(), 3);
+    if let [first, second, third] = steps {
+        assert!(rt; syncs(first, b"/a", 1));
+        assert!(rt; syncs(second, b"/a", 10000));
+        assert!(rt; syncs(third, b"/data/run.7", 2));
+    }
+    Ok(())
+}
+
+#[test]
 fn the_first_line_without_a_form_is_named(rt: HostRuntime) {
     let table = [
         ("go 65", 1),
@@ -90,7 +114,15 @@ fn the_first_line_without_a_form_is_named(rt: HostRuntime) {
         ("write 1 10001", 1),
         ("write 1 1 ", 1),
         ("write", 1),
+        ("sync a", 1),
+        ("sync /a 0", 1),
+        ("sync /a 10001", 1),
+        ("sync /a 3 4", 1),
+        ("sync /a ", 1),
+        ("sync", 1),
+        ("sync ", 1),
         ("write 2\nwrite 3 1", 2),
+        ("sync /a\nsync /a 3\nsync a", 3),
         ("#\n\ngo 1\ngo x\ngo y\n", 4),
     ];
     for (text, line) in table {

@@ -94,8 +94,8 @@ pub record StaysFor (c c2 : CoreView) : Type 0 where
   pub block_size_is : c2.block_size ≡ c.block_size
   pub first_is : c2.first ≡ c.first
 
--- by a call that changes no more than the log, what is out and what is stored
-pub stays_for : (c c2 : CoreView) → c2 ≡ record c { entries = c2.entries; out = c2.out; stored = c2.stored } → StaysFor c c2
+-- by a call that changes no more than the log, what is out and what is on disk
+pub stays_for : (c c2 : CoreView) → c2 ≡ record c { entries = c2.entries; out = c2.out; stored = c2.stored; durable = c2.durable; claimed = c2.claimed } → StaysFor c c2
 stays_for c c2 home = record {
   instance_is = ap (λ (v : CoreView). v.instance) home;
   path_is = ap (λ (v : CoreView). v.path) home;
@@ -334,7 +334,7 @@ abbrev pub nobody : ClientView
 nobody = record { book = record { number = 0; asked = []; replies = []; stays = []; shut = false }; line = record { number = 0; calls = 0; faults = 0 }; stage = Rest }
 
 abbrev pub no_core : CoreView
-no_core = record { instance = 0; path = []; size = 0; block_size = 0; first = Stored []; entries = []; out = []; stored = []; durable = [] }
+no_core = record { instance = 0; path = []; size = 0; block_size = 0; first = Stored []; entries = []; out = []; stored = []; durable = []; claimed = [] }
 
 -- what holds of each element below i, and of that at i
 pub more_rows : {X : Type 0} (P : X → Type 0) (xs : List X) (i : ℕ) (x : X) → i < length xs → x ≡ get_or xs i x → P x → ((j : ℕ) (d : X) → j < i → P (get_or xs j d)) →

@@ -7,7 +7,7 @@ use Rattle.pfc_scene.proofs.Reports.{at_map}
 use Rattle.std.proofs.lemmas.Simd.{map-map}
 use Rattle.std.proofs.lemmas.List.Elements.{filter_map-append}
 use Rattle.pfc_log.proofs.Places.{by_bool, eq_sym}
-use Rattle.pfc_report.specs.Schedule.{Line, Ask, Go, Write, asked, request_for}
+use Rattle.pfc_report.specs.Schedule.{Line, Ask, Go, Write, Sync, asked, request_for}
 use Rattle.pfc_scene.specs.Ends.{all_asked}
 use Rattle.pfc_actor.specs.Clients.{ClientView}
 use Rattle.pfc_scene.specs.Scenes.{who, number_of, asked_more}
@@ -42,6 +42,9 @@ goes_none n times xs = map_id (all_asked (Go n times ∷ [])) (λ x. ap (λ l. (
 
 pub writes_none : (w times : ℕ) (xs : List (ℕ × List (List ℕ))) → map (all_asked (Write w times ∷ [])) xs ≡ xs
 writes_none w times xs = map_id (all_asked (Write w times ∷ [])) (λ x. ap (λ l. (x.0, l)) (append-nil x.1)) xs
+
+pub syncs_none : (path : List ℕ) (times : ℕ) (xs : List (ℕ × List (List ℕ))) → map (all_asked (Sync path times ∷ [])) xs ≡ xs
+syncs_none path times xs = map_id (all_asked (Sync path times ∷ [])) (λ x. ap (λ l. (x.0, l)) (append-nil x.1)) xs
 
 pub none_yet : (xs : List (ℕ × List (List ℕ))) → map (all_asked []) xs ≡ xs
 none_yet xs = map_id (all_asked []) (λ x. ap (λ l. (x.0, l)) (append-nil x.1)) xs

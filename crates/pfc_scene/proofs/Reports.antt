@@ -15,8 +15,8 @@ use Rattle.pfc_client.specs.Permitted.{ArePermitted}
 use Rattle.pfc_log.specs.declared.start.Start.{Start}
 use Rattle.pfc_log.specs.declared.start.Start.TheVariants.{Stored}
 use Rattle.pfc_log.specs.Charges.{charges, is_there}
-use Rattle.pfc_log.specs.Lawful.{IsComplete}
-use Rattle.pfc_log.specs.Views.{Away, Place, bound, place, times}
+use Rattle.pfc_log.specs.Lawful.{IsComplete, IsUnfrozen}
+use Rattle.pfc_log.specs.Views.{Away, Place, bound, place, times, stored, claimed}
 use Rattle.pfc_log.specs.declared.entry.DropCause.TheVariants as cause
 use Rattle.pfc_log.specs.declared.entry.Entry.{Entry}
 use Rattle.pfc_log.specs.declared.entry.Entry.TheVariants.{Dropped}
@@ -313,6 +313,7 @@ caused told files k capacity rest lines clients cores backings writers queue log
           (λ j l. subst (λ (x : ℕ × ℕ). AreItsFailures (get_or clients j nobody).book.number (asked (get_or clients j nobody).book.number lines) (get_or clients j nobody).book.replies logs 0 x.1) (sym (spent j l)) (failed_part told files lines logs cores (get_or clients j nobody) (ended j l)));
       disk = subst (λ m. RoseBy f m g) (sym (charges_are told files logs cores sections)) paid;
       full = report_queued told files k capacity clients cores backings writers queue logs queued s.places sections;
+      claimed = section_all told files (λ x. IsCached x.log.first → IsUnfrozen x.log.entries → (i : ℕ) → claimed x.log.first i x.log.entries ≡ stored x.log.first i x.log.entries) logs cores sections (λ i d l m x. rw (x.first_is, x.entries_are) x.settled);
       others = λ n none. record {
         spent = no_row clients n (λ i d l. subst (λ m. (n == m) ≡ false) (sym (done i d l).number) (no_clients lines clients n is none i d l));
         logged = section_all told files (λ x. tally_in n x ≡ nothing) logs cores sections (λ i d l m x. ap (tally n) x.entries_are ∙ s.strangers n (no_clients lines clients n is none) i no_core m);

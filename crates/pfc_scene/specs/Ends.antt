@@ -3,18 +3,21 @@ use Rattle.std.specs.Prelude.{◌≡◌, ℕ, Bool, List, [], ◌∷◌, ◌++�
 use Rattle.pfc_actor.specs.Books.{BookView}
 use Rattle.pfc_world.specs.Files.{Files, HasSize}
 use Rattle.pfc_log.specs.Lawful.{IsComplete}
+use Rattle.pfc_core.specs.Turns.{IsSettled}
 use Rattle.pfc_core.specs.View.{CoreView}
 use Rattle.pfc_report.specs.declared.report.Told.{Told}
 use Rattle.pfc_report.specs.declared.report.Section.{Section}
 use Rattle.pfc_report.specs.Schedule.{Line, asked, asked_clients}
 use Rattle.pfc_actor.specs.Clients.{ClientView}
 
--- the section of a core, whose log is complete; where the world is told the core has the size of its file
+-- the section of a core, whose log is complete, and of which nothing is left to be claimed; where the world is told the core has the
+-- size of its file
 pub record IsSection (told : Bool) (files : Files) (x : Section) (c : CoreView) : Type 0 where
   pub path_is : x.path ≡ c.path
   pub first_is : x.log.first ≡ c.first
   pub entries_are : x.log.entries ≡ c.entries
   pub complete : IsComplete c.first c.entries
+  pub settled : IsSettled c
   pub sized : HasSize told files c.path c.size
 
 -- one for each core, in order

@@ -11,6 +11,9 @@ use std::alloc::Global;
 /// The most steps that a writer makes of one job.
 const JOB_STEPS: u32 = 5;
 
+/// The most steps that a sync makes of one core.
+const SYNC_STEPS: u32 = 6;
+
 /// The most steps that a client makes of one loan.
 const LOAN_STEPS: u32 = 2;
 
@@ -166,19 +169,57 @@ impl<W: World, O: Origin<W>, P: Depot<W>> Scene<W, O, P> {
         }
     }
 
+    /// The sync goes on with the core at this place, if it is at one, as far as it comes.
+    fn finish_sync_at(&mut self, alloc: Global, i: usize)
+        requires { i < length self.old.cores }
+        ensures moves { Moves self.old self.new }
+        ensures cores { length self.new.cores ≡ length self.old.cores }
+    {
+        for _step in 0..SYNC_STEPS {
+            if self.sync.is_none() {
+                return;
+            }
+            self.sync_step(alloc, i);
+        }
+    }
+
+    /// The sync goes on with what it is at, as far as it comes.
+    fn finish_sync(&mut self, alloc: Global)
+        ensures { Moves self.old self.new }
+    {
+        let Some(work) = self.sync else {
+            return;
+        };
+        if work.core < self.cores.len() {
+            self.finish_sync_at(alloc, work.core);
+        }
+    }
+
     /// What is lent is given back, in two rounds, since one may have waited for another, and no writer is at a job after them.
     fn give_all(&mut self, alloc: Global)
         requires { IsTrue W.told → IsTrue P.Data.told }
         ensures { Moves self.old self.new }
     {
         self.finish_jobs();
+        self.finish_sync(alloc);
         self.give_all_back(alloc);
         self.finish_jobs();
+        self.finish_sync(alloc);
         self.give_all_back(alloc);
     }
 
+    /// What can be read of each file is claimed, one file after the other.
+    fn sync_all(&mut self, alloc: Global)
+        ensures { Moves self.old self.new }
+    {
+        for i in 0..self.cores.len() {
+            self.sync_step(alloc, i);
+            self.finish_sync_at(alloc, i);
+        }
+    }
+
     /// After the last line of a schedule each client gives up what others may wait for, and all loans come back. Then the requests
-    /// are completed, the queue is written out, and what is still open is closed.
+    /// are completed, the queue is written out, what is still open is closed, and what is on disk is claimed.
     pub fn drain<K: Clock>(&mut self, alloc: Global, depot: &mut P, clock: &mut K)
         requires told { IsTrue W.told → IsTrue P.Data.told }
         requires sound { IsSoundAtHome W.told P.Data.told W.files (P.home_data depot.old) (P.home_main depot.old) }
@@ -193,5 +234,6 @@ impl<W: World, O: Origin<W>, P: Depot<W>> Scene<W, O, P> {
         self.complete_all(alloc, depot, clock);
         self.write_out();
         self.shut_all();
+        self.sync_all(alloc);
     }
 }

@@ -10,6 +10,7 @@ mod opens;
 mod run;
 mod scene;
 mod steps;
+mod syncs;
 mod writes;
 
 pub use run::{Settings, run_scene};

@@ -58,13 +58,16 @@ fn end_clients<W: World, O: Origin<W>>(
     clients.destroy_empty();
 }
 
-/// Ends cores: the log of each, with its path.
+/// Ends cores: the log of each, with its path. What can be read of each file is claimed by then.
 fn end_cores<W: World>(alloc: Global, cores: Vec<FileCore<W>>) -> Result<Vec<Section>, Memory>
     ensures { IfOk result (λ logs. AreSections W.told W.files logs.items cores.items) }
 {
     let mut logs = Vec::with_capacity(alloc, cores.len())?;
     for core in cores {
         let path = core.known().path().copy();
+        if !core.settled() {
+            return Err(Memory);
+        }
         match core.retire() {
             Ok(retired) => logs.push_reserved(Section {
                 path,
@@ -116,6 +119,10 @@ fn play_step<W: World, O: Origin<W>, P: Depot<W>, K: Clock>(
         }
         Step::Write { writer, times } => {
             scene.write(writer, times);
+            Ok(())
+        }
+        Step::Sync { path, times } => {
+            scene.sync(alloc, path, times);
             Ok(())
         }
     }

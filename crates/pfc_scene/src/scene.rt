@@ -10,19 +10,22 @@ ghost use Rattle.pfc_scene.specs.Scenes.{SceneView, IsScene, AreUnique, Moves, w
 use pfc_actor::{Backing, Client};
 use pfc_base::Memory;
 use pfc_core::FileCore;
+use pfc_sync::SyncWork;
 use pfc_world::{Depot, Origin, World};
 use pfc_writer::{WriteQueue, Writer};
 use std::alloc::Global;
 use std::marker::Model;
 
 /// Clients, and a core for each path that any of them opened, or for each open of a file that isn't cached, each with its volume
-/// beside it; the writers and their queue.
+/// beside it; the writers and their queue, and the sync.
 pub struct Scene<W: World, O: Origin<W>, P: Depot<W>> {
     pub(crate) clients: Vec<Client<W, O>>,
     pub(crate) cores: Vec<FileCore<W>>,
     pub(crate) backings: Vec<Backing<W, P>>,
     pub(crate) writers: Vec<Writer<W>>,
     pub(crate) queue: WriteQueue<W>,
+    /// What the sync is at; none at rest.
+    pub(crate) sync: Option<SyncWork>,
     pub(crate) block_size: u64,
 }
 
@@ -74,6 +77,7 @@ impl<W: World, O: Origin<W>, P: Depot<W>> Scene<W, O, P> {
             backings: Vec::new(alloc),
             writers,
             queue,
+            sync: None,
             block_size,
         }
     }
@@ -150,6 +154,7 @@ impl<W: World, O: Origin<W>, P: Depot<W>> Scene<W, O, P> {
             backings,
             writers: _,
             queue: _,
+            sync: _,
             block_size: _,
         } = self;
         (clients, cores, backings)

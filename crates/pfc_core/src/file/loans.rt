@@ -9,22 +9,22 @@ ghost use Rattle.pfc_core.specs.Lending.{Lends, NotLent, Gives, StraysLoan, IsHo
 
 use super::FileCore;
 use crate::held::{Held, is_same};
-use crate::loan::{Did, Loan, NoLoan};
+use crate::loan::{Did, Lent, Loan, NoLoan, Purpose};
 use crate::token::{Strayed, is_of, stranger, tag_of};
 use pfc_log::Entry;
 use pfc_store::FileStore;
 use pfc_world::{DataDev, InfoDev, World};
 
-/// What is kept of the loan of this number.
-fn held_loan(number: u64) -> Held
-    ensures { result ≡ loan_of number }
+/// What is kept of this loan.
+pub(super) fn held_loan(lent: Lent) -> Held
+    ensures { result ≡ loan_of lent }
 {
     Held {
-        number,
+        number: lent.number,
         client: 0,
         block: 0,
-        flight: 0,
-        owner: 0,
+        flight: lent.at,
+        owner: if lent.turn { 1 } else { 0 },
     }
 }
 
@@ -42,8 +42,10 @@ impl<W: World> FileCore<W> {
         if self.uncached().is_some() {
             return Err(NoLoan::NoStore);
         }
-        if let Some(number) = self.loan {
-            return Err(NoLoan::Out { number });
+        if let Some(lent) = self.loan {
+            return Err(NoLoan::Out {
+                number: lent.number,
+            });
         }
         if !self.is_home(home) {
             return Err(NoLoan::NoStore);
@@ -51,19 +53,27 @@ impl<W: World> FileCore<W> {
         let Some(store) = home.take() else {
             return Err(NoLoan::NoStore);
         };
-        let number = self.lent;
-        self.lent = number.saturating_add(1);
-        self.loan = Some(number);
-        let tag = tag_of(self.instance, &self.shelf, held_loan(number));
+        let lent = Lent {
+            number: self.lent,
+            at: self.log.len(),
+            turn: false,
+        };
+        self.lent = self.lent.saturating_add(1);
+        self.loan = Some(lent);
+        let tag = tag_of(self.instance, &self.shelf, held_loan(lent));
         Ok(Loan {
             tag,
             store,
+            purpose: Purpose::Blocks,
             did: Did::Nothing,
         })
     }
 
     /// Whether the store of this file is at home.
-    fn is_home<D: DataDev<W>, I: InfoDev<W>>(&self, home: &Option<FileStore<W, D, I>>) -> bool
+    pub(super) fn is_home<D: DataDev<W>, I: InfoDev<W>>(
+        &self,
+        home: &Option<FileStore<W, D, I>>,
+    ) -> bool
         ensures { IsTrue result ↔ IsHome self.now home.now }
     {
         match home {
@@ -97,13 +107,30 @@ impl<W: World> FileCore<W> {
         if !self.fits(&loan) {
             return Err(Strayed { token: loan, why });
         }
-        let Loan { tag, store, did } = loan;
+        let Loan {
+            tag,
+            store,
+            purpose,
+            did,
+        } = loan;
+        let at = tag.held.flight;
         drop(tag);
+        drop(purpose);
         *home = Some(store);
         self.loan = None;
         match did {
             Did::Nothing => (),
             Did::Wrote(block) => self.enter_write(block),
+            Did::Synced => {
+                self.sets.sync();
+                self.log.push(Entry::Synced);
+            }
+            Did::Claimed => {
+                let count = self.sets.durable_count();
+                self.sets.claim();
+                self.claim = Some(at);
+                self.log.push(Entry::Claimed { at, count });
+            }
             Did::Broke => {
                 self.sets.freeze();
                 self.log.push(Entry::Frozen);
@@ -119,10 +146,10 @@ impl<W: World> FileCore<W> {
         if !is_of(&loan.tag, self.instance, &self.shelf) {
             return false;
         }
-        let Some(number) = self.loan else {
+        let Some(lent) = self.loan else {
             return false;
         };
-        is_same(held_loan(number), loan.tag.held)
+        is_same(held_loan(lent), loan.tag.held)
     }
 
     /// Whether what a loan did may be entered.

@@ -13,7 +13,7 @@ use pfc_world::{Known, World};
 use std::alloc::Global;
 
 impl<W: World> FileCore<W> {
-    /// A core that nobody uses yet, with an empty log. The blocks of this set are on disk for good.
+    /// A core that nobody uses yet, with an empty log. The blocks of this set are on disk for good, and claimed.
     pub fn new(
         alloc: Global,
         instance: u64,
@@ -42,6 +42,8 @@ impl<W: World> FileCore<W> {
             loan: None,
             lent: 0,
             begun: 0,
+            claim: None,
+            visited: 0,
         })
     }
 
@@ -72,6 +74,8 @@ impl<W: World> FileCore<W> {
             loan: None,
             lent: 0,
             begun: 0,
+            claim: None,
+            visited: 0,
         })
     }
 }

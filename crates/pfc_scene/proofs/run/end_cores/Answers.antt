@@ -11,6 +11,7 @@ loop-core-preserved g c = record {
     first_is = c.in-Ok.ensures.ok.0;
     entries_are = c.in-Ok.ensures.ok.1;
     complete = c.in-Ok.ensures.ok.3;
+    settled = c.if-not-settled.ensures;
     sized = let known = c.known.result.now in
         subst (λ (p : List ℕ). HasSize g.W.World.told g.W.World.files p c.in-Some.core.size) c.known.ensures.path (subst (λ (n : ℕ). HasSize g.W.World.told g.W.World.files known.path n) c.known.ensures.size known.right);
   }));

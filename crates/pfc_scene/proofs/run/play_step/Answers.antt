@@ -1,8 +1,8 @@
-use Rattle.std.proofs.Common.{◌≡◌, ◌∙◌, List, ap, sym, subst}
+use Rattle.std.proofs.Common.{◌∙◌, ap, sym, subst}
 use Rattle.pfc_world.specs.Counts.{RoseBy}
 use Rattle.pfc_actor.specs.Backings.{depot_of}
 use Rattle.pfc_scene.specs.Scenes.{SceneView, IsLentBy, settled}
-use Rattle.pfc_scene.proofs.Playing.{goes_none, writes_none, numbers_from_who}
+use Rattle.pfc_scene.proofs.Playing.{goes_none, writes_none, syncs_none, numbers_from_who}
 use Rattle.pfc_scene.proofs.run.play_step.Goals as goal
 
 pub returns-in-Ask-clause-lent : goal.returns-in-Ask-clause-lent
@@ -37,3 +37,9 @@ returns-in-Write-clause-asked g c = rw c.in-Write.is (c.write.ensures.same ∙ s
 
 pub returns-in-Write-clause-numbers : goal.returns-in-Write-clause-numbers
 returns-in-Write-clause-numbers g c = numbers_from_who _ _ c.write.ensures.same
+
+pub returns-in-Sync-clause-asked : goal.returns-in-Sync-clause-asked
+returns-in-Sync-clause-asked g c = rw c.in-Sync.is (c.sync.ensures.same ∙ sym (syncs_none c.in-Sync.path.now c.in-Sync.times _))
+
+pub returns-in-Sync-clause-numbers : goal.returns-in-Sync-clause-numbers
+returns-in-Sync-clause-numbers g c = numbers_from_who _ _ c.sync.ensures.same

@@ -12,6 +12,7 @@ use Rattle.pfc_core.proofs.Outs.{gains_stay, mark_at}
 use Rattle.pfc_core.proofs.Found.{found_more}
 use Rattle.pfc_core.proofs.Said.{said_more}
 use Rattle.pfc_core.proofs.Rooms.{alarm_most}
+use Rattle.pfc_core.proofs.Turned.{turns_visit, turn_most}
 use Rattle.pfc_core.proofs.file.FileCore.attach.Goals as goal
 
 pub invariant_of-self-2 : goal.invariant_of-self-2
@@ -22,9 +23,9 @@ invariant_of-self-2 g c = let s = c.self.inside in let was = c.self.invariant in
       guests = rw (c.push.ensures, c.make_room.ensures.entries) (in_open _ c.args.n c.add-held.result _ _ was.guests put c.add-held.ensures.client);
       found = rw (c.push.ensures, c.make_room.ensures.entries) (found_more _ _ _ was.found (λ i n. (refl, refl)));
       said = rw (c.push.ensures, c.make_room.ensures.first, c.make_room.ensures.entries) (said_more _ _ _ _ was.said refl refl);
-      room = rw c.push.ensures (omega (arith, room, c.in_ok-others.ensures.sum, alarm_most s.sets, room_at_most s.shelf.slots, puts_length _ _ _ put));
+      room = rw c.push.ensures (omega (arith, room, c.in_ok-others.ensures.sum, alarm_most s.sets, turn_most s.loan, room_at_most s.shelf.slots, puts_length _ _ _ put));
       sized = rw (c.push.ensures, c.make_room.ensures.first) was.sized;
-      lends = rw (c.push.ensures, c.make_room.ensures.first) was.lends;
+      turns = rw (c.len-self-inside.ensures, c.push.ensures, c.make_room.ensures.first, c.make_room.ensures.entries) (turns_visit _ _ _ _ _ _ _ was.turns refl refl);
     }
 
 pub returns-clause-ok : goal.returns-clause-ok

@@ -7,6 +7,7 @@ use Rattle.pfc_core.specs.Homes.{home_of}
 use Rattle.pfc_core.proofs.Rooms.{room_at_most, puts_length}
 use Rattle.pfc_core.proofs.Outs.{gains_reading, mark_at}
 use Rattle.pfc_core.proofs.Rooms.{alarm_most}
+use Rattle.pfc_core.proofs.Turned.{turn_most}
 use Rattle.pfc_core.proofs.file.FileCore.begin_read.Goals as goal
 
 pub invariant_of-self-2 : goal.invariant_of-self-2
@@ -17,9 +18,9 @@ invariant_of-self-2 g c = let s = c.self.inside in let was = c.self.invariant in
       guests = rw (c.make_room.ensures.entries) was.guests;
       found = rw (c.make_room.ensures.entries) was.found;
       said = rw (c.make_room.ensures.first, c.make_room.ensures.entries) was.said;
-      room = omega (arith, room, c.in_ok-others.ensures.sum, alarm_most s.sets, room_at_most s.shelf.slots, puts_length _ _ _ put);
+      room = omega (arith, room, c.in_ok-others.ensures.sum, alarm_most s.sets, turn_most s.loan, room_at_most s.shelf.slots, puts_length _ _ _ put);
       sized = rw (c.make_room.ensures.first) was.sized;
-      lends = rw (c.make_room.ensures.first) was.lends;
+      turns = rw (c.make_room.ensures.first, c.make_room.ensures.entries) was.turns;
     }
 
 pub returns-clause-ok : goal.returns-clause-ok

@@ -22,9 +22,10 @@ use Rattle.pfc_core.proofs.Rooms.{room_at_most, puts_length}
 use Rattle.pfc_core.proofs.Found.{found_more, found_hit}
 use Rattle.pfc_core.proofs.Said.{said_more, alarm_most}
 use Rattle.pfc_core.proofs.Uncached.{uncached_start, cached_start, uncached_row}
-use Rattle.pfc_core.proofs.Pinning.{pinned_kept, pinned_in, pinned_found, pinned_said, pinned_length, pinned_decides}
+use Rattle.pfc_core.proofs.Pinning.{pinned_kept, pinned_in, pinned_found, pinned_said, pinned_turns, pinned_length, pinned_decides}
 use Rattle.pfc_core.proofs.Flown.{fetch_gains, pin_gains}
 use Rattle.pfc_core.proofs.Outs.{gains_disk, home_moved, gains_at, mark_at}
+use Rattle.pfc_core.proofs.Turned.{turns_more, turn_most}
 use Rattle.pfc_core.proofs.file.FileCore.decide.Goals as goal
 
 pub invariant_of-self-in-Some : goal.invariant_of-self-in-Some
@@ -37,9 +38,9 @@ invariant_of-self-in-Some g c = let s = c.self.inside in let was = c.self.invari
       guests = rw (c.push.ensures, c.make_room.ensures.entries) (in_more _ _ _ was.guests (λ n. (refl, refl)));
       found = rw (c.push.ensures, c.make_room.ensures.entries, c.reserve.ensures.list) (found_more _ _ _ was.found (λ i n. (refl, refl)));
       said = rw (c.push.ensures, c.make_room.ensures.first, c.make_room.ensures.entries) (said_more _ _ _ _ was.said refl refl);
-      room = rw (c.push.ensures, c.make_room.ensures.list, c.reserve.ensures.list) (omega (arith, room, sum, room_at_most s.shelf.slots, alarm_most s.sets));
+      room = rw (c.push.ensures, c.make_room.ensures.list, c.reserve.ensures.list) (omega (arith, room, sum, room_at_most s.shelf.slots, alarm_most s.sets, turn_most s.loan));
       sized = rw (c.push.ensures, c.make_room.ensures.first) was.sized;
-      lends = rw (c.push.ensures, c.make_room.ensures.first) was.lends;
+      turns = rw (c.push.ensures, c.make_room.ensures.first, c.make_room.ensures.entries) (turns_more _ _ _ _ _ _ _ was.turns refl refl);
     }
 
 pub invariant_of-self-in-Some-find : goal.invariant_of-self-in-Some-find
@@ -53,9 +54,9 @@ invariant_of-self-in-Some-find g c = let s = c.self.inside in let was = c.self.i
       guests = rw (c.pin_on.ensures.log, c.make_room.ensures.entries) (pinned_in n x _ _ was.guests);
       found = rw (c.pin_on.ensures.log, c.make_room.ensures.entries, c.reserve.ensures.list) (pinned_found n x _ _ was.found);
       said = rw (c.pin_on.ensures.log, c.make_room.ensures.first, c.make_room.ensures.entries) (pinned_said n x _ _ _ was.said);
-      room = rw (c.pin_on.ensures.log, c.reserve.ensures.list) (let same : room_of (bumped x) ≡ room_of x = refl in omega (arith, room, sum, room_at_most s.shelf.slots, alarm_most s.sets, pinned_length _ n x s.pins.list c.pin_on.new.pins.list c.pin_on.result pin, moved.weighs room_of, same));
+      room = rw (c.pin_on.ensures.log, c.reserve.ensures.list) (let same : room_of (bumped x) ≡ room_of x = refl in omega (arith, room, sum, room_at_most s.shelf.slots, alarm_most s.sets, turn_most s.loan, pinned_length _ n x s.pins.list c.pin_on.new.pins.list c.pin_on.result pin, moved.weighs room_of, same));
       sized = rw (c.pin_on.ensures.log, c.make_room.ensures.first, moved.size, moved.block_size) was.sized;
-      lends = rw (c.pin_on.ensures.log, c.make_room.ensures.first) was.lends;
+      turns = rw (c.pin_on.ensures.log, c.make_room.ensures.first, c.make_room.ensures.entries) (pinned_turns n x _ _ _ _ _ _ was.turns);
     }
 
 pub returns-in-Some-find-clause-ok : goal.returns-in-Some-find-clause-ok
@@ -83,9 +84,9 @@ invariant_of-self-then-has g c = let s = c.self.inside in let was = c.self.invar
       guests = rw (c.push-then-has.ensures, c.make_room.ensures.entries) (in_more _ _ _ was.guests (λ n. (refl, refl)));
       found = rw (c.push-then-has.ensures, c.make_room.ensures.entries) (found_hit _ c.add-held.result b n _ _ was.found put c.add-held.ensures.block c.add-held.ensures.client);
       said = rw (c.push-then-has.ensures, c.make_room.ensures.first, c.make_room.ensures.entries) (said_more _ _ _ _ was.said refl refl);
-      room = rw (c.push-then-has.ensures, c.make_room.ensures.list) (omega (arith, room, sum, room_at_most s.shelf.slots, alarm_most s.sets, puts_length _ _ _ put));
+      room = rw (c.push-then-has.ensures, c.make_room.ensures.list) (omega (arith, room, sum, room_at_most s.shelf.slots, alarm_most s.sets, turn_most s.loan, puts_length _ _ _ put));
       sized = rw (c.push-then-has.ensures, c.make_room.ensures.first) was.sized;
-      lends = rw (c.push-then-has.ensures, c.make_room.ensures.first) was.lends;
+      turns = rw (c.push-then-has.ensures, c.make_room.ensures.first, c.make_room.ensures.entries) (turns_more _ _ _ _ _ _ _ was.turns refl refl);
     }
 
 pub returns-then-has-clause-ok : goal.returns-then-has-clause-ok
@@ -120,9 +121,9 @@ invariant_of-self-3 g c = let s = c.self.inside in let was = c.self.invariant in
       guests = rw (c.push-2.ensures, c.make_room.ensures.entries) (in_more _ _ _ was.guests (λ n. (refl, refl)));
       found = rw (c.push-2.ensures, c.make_room.ensures.entries, c.reserve.ensures.list) (found_more _ _ _ was.found (λ i n. (refl, refl)));
       said = rw (c.push-2.ensures, c.make_room.ensures.first, c.make_room.ensures.entries) (said_more _ _ _ _ was.said refl refl);
-      room = rw (c.push-2.ensures, c.reserve.ensures.list) (omega (arith, room, sum, room_at_most s.shelf.slots, alarm_most s.sets, puts_length _ _ _ put, moved.weighs room_of));
+      room = rw (c.push-2.ensures, c.reserve.ensures.list) (omega (arith, room, sum, room_at_most s.shelf.slots, alarm_most s.sets, turn_most s.loan, puts_length _ _ _ put, moved.weighs room_of));
       sized = rw (c.push-2.ensures, c.make_room.ensures.first, moved.size, moved.block_size) was.sized;
-      lends = rw (c.push-2.ensures, c.make_room.ensures.first) was.lends;
+      turns = rw (c.push-2.ensures, c.make_room.ensures.first, c.make_room.ensures.entries) (turns_more _ _ _ _ _ _ _ was.turns refl refl);
     }
 
 pub returns-clause-ok : goal.returns-clause-ok

@@ -11,6 +11,7 @@ use Rattle.pfc_core.proofs.Rooms.{takes_length}
 use Rattle.pfc_core.proofs.Outs.{loses_stay, unlisted_stay, unlisted_elsewhere, mark_at, at_home}
 use Rattle.pfc_core.proofs.Found.{found_more}
 use Rattle.pfc_core.proofs.Said.{said_more}
+use Rattle.pfc_core.proofs.Turned.{turns_visit}
 use Rattle.pfc_core.proofs.file.FileCore.detach.Goals as goal
 
 pub returns-then-not-is_of-clause-strayed : goal.returns-then-not-is_of-clause-strayed
@@ -40,7 +41,7 @@ invariant_of-self-2 g c = let s = c.self.inside in let was = c.self.invariant in
       said = rw c.push.ensures (said_more _ _ _ _ was.said refl refl);
       room = rw c.push.ensures (omega (arith, was.room, takes_length _ _ _ take));
       sized = rw c.push.ensures was.sized;
-      lends = rw c.push.ensures was.lends;
+      turns = rw (c.len-self-inside.ensures, c.push.ensures) (turns_visit _ _ _ _ _ _ _ was.turns refl refl);
     }
 
 pub returns-clause-ok : goal.returns-clause-ok

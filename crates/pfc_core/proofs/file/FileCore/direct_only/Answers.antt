@@ -1,5 +1,6 @@
 use Rattle.std.proofs.Common.{arith}
 use Rattle.pfc_core.proofs.Begun.{new_held, new_in, new_found, new_bare}
+use Rattle.pfc_core.proofs.Turned.{bare_turns}
 use Rattle.pfc_core.proofs.file.FileCore.direct_only.Goals as goal
 
 pub invariant_of-result : goal.invariant_of-result
@@ -10,5 +11,5 @@ invariant_of-result g c = record {
   said = rw (c.in_ok-reserve.ensures.ok, c.new-log.ensures, c.in_ok-sets.ensures, c.in_ok-new.ensures) (new_bare _);
   room = rw (c.in_ok-reserve.ensures.ok, c.new-log.ensures, c.in_ok-sets.ensures, c.new-4.ensures, c.new-5.ensures, c.new-6.ensures, c.new-7.ensures, c.new-8.ensures) (omega arith);
   sized = rw (c.in_ok-reserve.ensures.ok, c.new-log.ensures, c.new-4.ensures) (record { some = c.requires.some; most = c.requires.most; blocks = λ is. absurd is; start = λ is. absurd is });
-  lends = tt;
+  turns = rw (c.in_ok-reserve.ensures.ok, c.new-log.ensures, c.in_ok-sets.ensures, c.in_ok-new.ensures) (bare_turns _);
 }

@@ -18,6 +18,7 @@ use Rattle.pfc_core.proofs.Found.{found_more}
 use Rattle.pfc_core.proofs.Said.{said_more}
 use Rattle.pfc_core.proofs.Flown.{end_loses, end_left_loses, unlisted_job}
 use Rattle.pfc_core.proofs.Outs.{loses_at, unlisted_elsewhere, at_home}
+use Rattle.pfc_core.proofs.Turned.{turns_more}
 use Rattle.pfc_core.proofs.file.FileCore.drop_job.Goals as goal
 
 pub returns-then-not-is_of-clause-strayed : goal.returns-then-not-is_of-clause-strayed
@@ -59,7 +60,7 @@ invariant_of-self g c = let s = c.self.inside in let was = c.self.invariant in l
       said = rw (c.push-then-slot-eq0.ensures, c.push.ensures) (said_more _ _ _ _ (said_more _ _ _ _ was.said refl refl) refl refl);
       room = rw (c.push-then-slot-eq0.ensures, c.push.ensures) (omega (arith, was.room, moved.weighs room_of, room_waits x got.1 got.2));
       sized = rw (c.push-then-slot-eq0.ensures, c.push.ensures, moved.size, moved.block_size) was.sized;
-      lends = rw (c.push-then-slot-eq0.ensures, c.push.ensures) was.lends;
+      turns = rw (c.push-then-slot-eq0.ensures, c.push.ensures) (turns_more _ _ _ _ _ _ _ (turns_more _ _ _ _ _ _ _ was.turns refl refl) refl refl);
     }
 
 pub returns-then-slot-eq0-clause-ok : goal.returns-then-slot-eq0-clause-ok
@@ -95,7 +96,7 @@ invariant_of-self-2 g c = let s = c.self.inside in let was = c.self.invariant in
       said = rw c.push.ensures (said_more _ _ _ _ was.said refl refl);
       room = rw c.push.ensures (omega (arith, was.room, moved.weighs room_of, room_ended x got.1 got.2));
       sized = rw (c.push.ensures, moved.size, moved.block_size) was.sized;
-      lends = rw c.push.ensures was.lends;
+      turns = rw c.push.ensures (turns_more _ _ _ _ _ _ _ was.turns refl refl);
     }
 
 pub returns-clause-ok : goal.returns-clause-ok

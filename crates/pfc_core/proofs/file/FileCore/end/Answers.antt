@@ -12,6 +12,7 @@ use Rattle.pfc_core.proofs.Rooms.{takes_length}
 use Rattle.pfc_core.proofs.Outs.{loses_reading, loses_at, unlisted_reading, unlisted_elsewhere, at_home}
 use Rattle.pfc_core.proofs.Found.{found_more}
 use Rattle.pfc_core.proofs.Said.{said_more}
+use Rattle.pfc_core.proofs.Turned.{turns_more}
 use Rattle.pfc_core.proofs.file.FileCore.end.Goals as goal
 
 pub returns-then-not-is_of-clause-strayed : goal.returns-then-not-is_of-clause-strayed
@@ -41,7 +42,7 @@ invariant_of-self-in_default g c = let was = c.self.invariant in let p = c.readi
       said = was.said;
       room = omega (arith, was.room, takes_length _ _ _ take);
       sized = was.sized;
-      lends = was.lends;
+      turns = was.turns;
     }
 
 pub returns-in_default-clause-ok : goal.returns-in_default-clause-ok
@@ -60,7 +61,7 @@ invariant_of-self-2 g c = let was = c.self.invariant in let p = c.reading.inside
       said = rw c.push.ensures (said_more _ _ _ _ was.said refl refl);
       room = rw c.push.ensures (omega (arith, was.room, takes_length _ _ _ take));
       sized = rw c.push.ensures was.sized;
-      lends = rw c.push.ensures was.lends;
+      turns = rw c.push.ensures (turns_more _ _ _ _ _ _ _ was.turns refl refl);
     }
 
 pub returns-clause-ok : goal.returns-clause-ok

@@ -12,6 +12,7 @@ use Rattle.pfc_core.proofs.Found.{found_more}
 use Rattle.pfc_core.proofs.Said.{said_write}
 use Rattle.pfc_core.proofs.Written.{here_landed, unwritten, write_row}
 use Rattle.pfc_core.proofs.Flown.{written_out}
+use Rattle.pfc_core.proofs.Turned.{turns_more}
 use Rattle.pfc_core.proofs.file.FileCore.enter_write.Goals as goal
 
 pub invariant_of-self : goal.invariant_of-self
@@ -30,7 +31,7 @@ invariant_of-self g c = let s = c.self.inside in let was = c.self.invariant in l
       said = rw (c.push.ensures, c.write.ensures) (said_write _ _ b s.sets was.said cold low);
       room = rw (c.push.ensures, c.write.ensures) (omega (arith, was.room, moved.weighs room_of, room_written x landed fresh));
       sized = rw (c.push.ensures, moved.size, moved.block_size) was.sized;
-      lends = rw c.push.ensures was.lends;
+      turns = rw (c.push.ensures, c.write.ensures) (turns_more _ _ _ _ _ _ _ was.turns refl refl);
     }
 
 pub returns : goal.returns

@@ -8,4 +8,4 @@ returns-clause-loan g c = let s = c.self.inside in
 
 pub returns-clause-bounds : goal.returns-clause-bounds
 returns-clause-bounds g c = let s = c.self.inside in let said = c.self.invariant.said in
-    rw (← c.self.view_is) (said.length_is, said.long_is)
+    rw (← c.self.view_is) (said.length_is, said.long_is, c.self.invariant.turns.length_is)

@@ -20,7 +20,7 @@ returns-in_default g c = let s = c.self.inside in let h = home_of s.instance s.s
     rw (← c.self.view_is, ← c.loan.view_is) (at_home LoanKind (home_in c.loan.inside.tag) h p (view_of s).out c.if-not-is_of.ensures (none_listed h s.stays.list s.readings.list s.pins.list s.disks.list s.shelf.slots s.loan p c.in_default.is))
 
 pub returns : goal.returns
-returns g c = let s = c.self.inside in let h = home_of s.instance s.shelf in let p = c.loan.inside.tag.held in let n = c.in-Some.number in
+returns g c = let s = c.self.inside in let h = home_of s.instance s.shelf in let p = c.loan.inside.tag.held in let n = c.in-Some.lent in
     let same : c.is_same.result ≡ is_held (loan_of n) p = c.is_same.ensures ∙ ap (λ (q : Held). is_held q p) c.held_loan.ensures in
     rw (← c.self.view_is, ← c.loan.view_is) (match_of c.is_same.result _ _
     (λ yes. subst (λ (m : Mark). 0 < listed m (view_of s).out) (sym (mark_at LoanKind (home_in c.loan.inside.tag) h p (loan_of n) c.if-not-is_of.ensures (held_is (loan_of n) p (sym same ∙ yes)))) (loan_listed h s.stays.list s.readings.list s.pins.list s.disks.list s.shelf.slots s.loan n c.in-Some.is))

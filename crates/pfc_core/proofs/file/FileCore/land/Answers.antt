@@ -15,6 +15,7 @@ use Rattle.pfc_core.proofs.Found.{found_more}
 use Rattle.pfc_core.proofs.Said.{said_more}
 use Rattle.pfc_core.proofs.Flown.{land_swaps, unlisted_ticket}
 use Rattle.pfc_core.proofs.Outs.{swaps_at, unlisted_elsewhere, at_home}
+use Rattle.pfc_core.proofs.Turned.{turns_more}
 use Rattle.pfc_core.proofs.file.FileCore.land.Goals as goal
 
 pub returns-then-not-is_of-clause-strayed : goal.returns-then-not-is_of-clause-strayed
@@ -47,7 +48,7 @@ invariant_of-self g c = let s = c.self.inside in let was = c.self.invariant in l
       said = rw c.push.ensures (said_more _ _ _ _ was.said refl refl);
       room = rw c.push.ensures (omega (arith, was.room, moved.weighs room_of, room_flying x got.1));
       sized = rw (c.push.ensures, moved.size, moved.block_size) was.sized;
-      lends = rw c.push.ensures was.lends;
+      turns = rw c.push.ensures (turns_more _ _ _ _ _ _ _ was.turns refl refl);
     }
 
 pub returns-clause-ok : goal.returns-clause-ok

@@ -15,6 +15,7 @@ use Rattle.pfc_core.proofs.Rooms.{takes_length}
 use Rattle.pfc_core.proofs.Outs.{loses_disk, loses_at, unlisted_disk, unlisted_elsewhere, at_home}
 use Rattle.pfc_core.proofs.Releasing.{sees_self}
 use Rattle.pfc_core.proofs.Said.{said_more}
+use Rattle.pfc_core.proofs.Turned.{turns_more}
 use Rattle.pfc_core.proofs.file.FileCore.leave_broken.Goals as goal
 
 pub returns-then-not-is_of : goal.returns-then-not-is_of
@@ -44,7 +45,7 @@ invariant_of-self-2 g c = let s = c.self.inside in let was = c.self.invariant in
       said = rw c.push.ensures (said_more _ _ _ _ was.said refl refl);
       room = rw c.push.ensures (omega (arith, was.room, takes_length _ _ _ take));
       sized = rw c.push.ensures was.sized;
-      lends = rw c.push.ensures was.lends;
+      turns = rw c.push.ensures (turns_more _ _ _ _ _ _ _ was.turns refl refl);
     }
 
 pub returns : goal.returns

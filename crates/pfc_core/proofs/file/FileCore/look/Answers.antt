@@ -17,6 +17,7 @@ use Rattle.pfc_core.proofs.Flown.{loses_pin}
 use Rattle.pfc_core.proofs.Outs.{loses_at, unlisted_pin, unlisted_elsewhere, at_home}
 use Rattle.pfc_core.proofs.Found.{found_more}
 use Rattle.pfc_core.proofs.Said.{said_more}
+use Rattle.pfc_core.proofs.Turned.{turns_more}
 use Rattle.pfc_core.proofs.file.FileCore.look.Goals as goal
 
 pub returns-then-not-is_of-clause-looks : goal.returns-then-not-is_of-clause-looks
@@ -77,7 +78,7 @@ invariant_of-self g c = let s = c.self.inside in let was = c.self.invariant in l
       said = rw c.push.ensures (said_more _ _ _ _ was.said refl refl);
       room = rw c.push.ensures (omega (arith, was.room, takes_length _ _ _ take));
       sized = rw c.push.ensures was.sized;
-      lends = rw c.push.ensures was.lends;
+      turns = rw c.push.ensures (turns_more _ _ _ _ _ _ _ was.turns refl refl);
     }
 
 pub returns-in-Lost-clause-looks : goal.returns-in-Lost-clause-looks

@@ -17,6 +17,7 @@ use Rattle.pfc_core.proofs.Flown.{loses_pin, less_loses, left_loses}
 use Rattle.pfc_core.proofs.Outs.{loses_at, unlisted_pin, unlisted_elsewhere, at_home}
 use Rattle.pfc_core.proofs.Found.{found_more}
 use Rattle.pfc_core.proofs.Said.{said_more}
+use Rattle.pfc_core.proofs.Turned.{turns_more}
 use Rattle.pfc_core.proofs.file.FileCore.release.Goals as goal
 
 pub returns-then-not-is_of-clause-no : goal.returns-then-not-is_of-clause-no
@@ -36,7 +37,7 @@ invariant_of-self-in_default g c = let s = c.self.inside in let was = c.self.inv
       said = was.said;
       room = omega (arith, was.room, takes_length _ _ _ take);
       sized = was.sized;
-      lends = was.lends;
+      turns = was.turns;
     }
 
 pub returns-in_default-clause-yes : goal.returns-in_default-clause-yes
@@ -58,7 +59,7 @@ invariant_of-self-then-slot-held g c = let s = c.self.inside in let was = c.self
       said = was.said;
       room = omega (arith, was.room, takes_length _ _ _ take);
       sized = was.sized;
-      lends = was.lends;
+      turns = was.turns;
     }
 
 pub returns-then-slot-held-clause-yes : goal.returns-then-slot-held-clause-yes
@@ -83,7 +84,7 @@ invariant_of-self-then-is_last g c = let s = c.self.inside in let was = c.self.i
       said = rw c.push.ensures (said_more _ _ _ _ was.said refl refl);
       room = rw c.push.ensures (omega (arith, was.room, takes_length _ _ _ take, moved.weighs room_of, room_some x));
       sized = rw (c.push.ensures, moved.size, moved.block_size) was.sized;
-      lends = rw c.push.ensures was.lends;
+      turns = rw c.push.ensures (turns_more _ _ _ _ _ _ _ was.turns refl refl);
     }
 
 pub returns-then-is_last-clause-yes : goal.returns-then-is_last-clause-yes
@@ -109,7 +110,7 @@ invariant_of-self-2 g c = let s = c.self.inside in let was = c.self.invariant in
       said = was.said;
       room = let same : room_of (lowered x) ≡ room_of x = refl in omega (arith, was.room, takes_length _ _ _ take, moved.weighs room_of, same);
       sized = rw (moved.size, moved.block_size) was.sized;
-      lends = was.lends;
+      turns = was.turns;
     }
 
 pub returns-clause-yes : goal.returns-clause-yes

@@ -27,7 +27,7 @@ invariant_of-self g c = let s = c.self.inside in let was = c.self.invariant in l
       (λ y. omega (arith, was.room, takes_length _ _ _ (c.take.ensures.yes y)))
       (λ n. rw (c.take.ensures.same n) was.room);
   sized = was.sized;
-  lends = was.lends;
+  turns = was.turns;
 }
 
 pub returns-clause-yes : goal.returns-clause-yes

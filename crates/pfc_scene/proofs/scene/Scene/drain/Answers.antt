@@ -6,10 +6,10 @@ pub complete_all-requires-clause-lent : goal.complete_all-requires-clause-lent
 complete_all-requires-clause-lent g c κs within = c.give_all.ensures.lent (depot_of g.P.Depot.out g.P.Depot.lent g.P.Depot.faults c.settle_all.new.depot) c.settle_all.ensures.lent
 
 pub returns-clause-lent : goal.returns-clause-lent
-returns-clause-lent g c = (moves_on _ _ _ c.write_out.ensures c.shut_all.ensures).lent (depot_of g.P.Depot.out g.P.Depot.lent g.P.Depot.faults c.complete_all.new.depot) c.complete_all.ensures.lent
+returns-clause-lent g c = (moves_on _ _ _ c.write_out.ensures (moves_on _ _ _ c.shut_all.ensures c.sync_all.ensures)).lent (depot_of g.P.Depot.out g.P.Depot.lent g.P.Depot.faults c.complete_all.new.depot) c.complete_all.ensures.lent
 
 pub returns-clause-plays : goal.returns-clause-plays
 returns-clause-plays g c =
     plays_on _ _ _ _ _ _ c.settle_all.ensures.plays
     (plays_on _ _ _ _ _ _ (moves_plays _ _ _ c.give_all.ensures)
-    (plays_on _ _ _ _ _ _ c.complete_all.ensures.plays (moves_plays _ _ _ (moves_on _ _ _ c.write_out.ensures c.shut_all.ensures))))
+    (plays_on _ _ _ _ _ _ c.complete_all.ensures.plays (moves_plays _ _ _ (moves_on _ _ _ c.write_out.ensures (moves_on _ _ _ c.shut_all.ensures c.sync_all.ensures)))))

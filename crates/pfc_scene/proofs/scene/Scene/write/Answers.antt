@@ -1,4 +1,4 @@
-use Rattle.std.proofs.Common.{◌<◌, ◌-◌, length, ap, arith}
+use Rattle.std.proofs.Common.{length, ap, arith}
 use Rattle.pfc_scene.specs.Scenes.{SceneView}
 use Rattle.pfc_scene.proofs.Moving.{moves_not}
 use Rattle.pfc_scene.proofs.scene.Scene.write.Goals as goal
