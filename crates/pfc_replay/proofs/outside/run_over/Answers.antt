@@ -1,3 +1,4 @@
+use Rattle.std.proofs.Common.{refl}
 use Rattle.pfc_replay.proofs.outside.run_over.Goals as goal
 
 pub run_replay-requires-clause-sound : goal.run_replay-requires-clause-sound
