@@ -12,6 +12,8 @@ pub use replay::run_replay;
 #[cfg(test)]
 mod disk_cases;
 #[cfg(test)]
+mod disk_models;
+#[cfg(test)]
 mod outside;
 #[cfg(test)]
 mod restart_cases;
