@@ -25,5 +25,9 @@ run "An empty cache: the block is fetched, written, synced and claimed." "begin 
 echo "What the cinfo says:"
 "$top/bin/xrdpfc_print" -v cache/events.cinfo | sed 's/^/    /'
 run "The next run: the block is read from disk." "hit 1 disk 1"
+echo "Both accesses are on record:"
+"$top/bin/xrdpfc_print" -v cache/events.cinfo > cinfo
+grep '^record ' cinfo | sed 's/^/    /'
+[ "$(grep -c '^record ' cinfo)" = 2 ] || { echo "not two records" >&2; exit 1; }
 printf '\377' | dd of=cache/events.cinfo bs=1 seek=44 conv=notrunc 2>/dev/null
 run "A cinfo with one byte changed is thrown away, and the block is fetched again." "begin 0 1 1"

@@ -26,6 +26,7 @@ use Rattle.pfc_core.specs.declared.loan.Did.TheVariants as did
 use Rattle.pfc_core.specs.Lending.{LendsFor, Gives, with_did}
 use Rattle.pfc_core.specs.Loans.{Aim, LoanView, IsLoan, WritesLent, did_by}
 use Rattle.pfc_core.specs.Marks.{Mark, LoanKind}
+use Rattle.pfc_core.specs.Access.{AccessView}
 use Rattle.pfc_core.specs.View.{CoreView}
 use Rattle.pfc_actor.specs.Backings.{BackingView, Stand, Bare, Taken, Open, Lent, broken_in, written_in, Covers, EntersBy, StandsFor, HasCovered, IsBackingOf, LoanStep, AllowsLeave}
 use Rattle.pfc_actor.specs.Standings.{BreaksBy, WritesBlock, WritesBy}
@@ -158,11 +159,11 @@ charge_is first es i n q h = ap {B = ℕ} (λ (b : Bool). if b then 1 else 0) h
 charged : (first : Start) (es : List Entry) (i n : ℕ) (q : Bool) → is_charged first es i ≡ q → charges first (es ++ Direct i n Device ∷ []) ≡ charges first es + (if q then 1 else 0)
 charged first es i n q h = charges_more first es (Direct i n Device) ∙ ap (λ (k : ℕ). charges first es + k) (charge_is first es i n q h)
 
-stands_on : (s : Stand) (c : CoreView) (es : List Entry) (o : List Mark) → StandsFor s c → StandsFor s (record c { entries = es; out = o })
-stands_on Bare c es o x = x
-stands_on (Taken path size) c es o x = x
-stands_on (Open path size k) c es o x = x
-stands_on (Lent m d) c es o x = x
+stands_on : (s : Stand) (c : CoreView) (es : List Entry) (o : List Mark) (a : AccessView) → StandsFor s c → StandsFor s (record c { entries = es; out = o; access = a })
+stands_on Bare c es o a x = x
+stands_on (Taken path size) c es o a x = x
+stands_on (Open path size k) c es o a x = x
+stands_on (Lent m d) c es o a x = x
 
 covered_on : (s : Stand) (n m u u2 : ℕ) (p now : ℕ × ℕ) → n ≡ m → HasCovered s n (beside s p now u) → HasCovered s m (beside s p now u2)
 covered_on Bare n m u u2 p now same x = x
@@ -170,12 +171,12 @@ covered_on (Taken path size) n m u u2 p now same x = subst (λ (k : ℕ). Covers
 covered_on (Open path size k) n m u u2 p now same x = subst (λ (j : ℕ). Covers j (beside (Open path size k) p now u)) same x
 covered_on (Lent mark d) n m u u2 p now same x = subst (λ (k : ℕ). Covers k (beside (Lent mark d) p now u)) same x
 
-leaves : (c c2 : CoreView) (es : List Entry) (s : Stand) (p now : ℕ × ℕ) (u u2 k : ℕ) → c2 ≡ record c { entries = c2.entries; out = c2.out } → c2.entries ≡ es → charges c.first es ≡ charges c.first c.entries + k → u ≡ u2 + k →
+leaves : (c c2 : CoreView) (es : List Entry) (s : Stand) (p now : ℕ × ℕ) (u u2 k : ℕ) → c2 ≡ record c { entries = c2.entries; out = c2.out; access = c2.access } → c2.entries ≡ es → charges c.first es ≡ charges c.first c.entries + k → u ≡ u2 + k →
     IsBackingOf c (beside s p now u) → IsBackingOf c2 (beside s p now u2)
 leaves c c2 es s p now u u2 k home enters more spent old =
     let grown : charges c.first c2.entries ≡ charges c.first c.entries + k = ap (charges c.first) enters ∙ more in
     subst (λ (v : CoreView). IsBackingOf v (beside s p now u2)) (sym home) (record {
-      stands = stands_on s c c2.entries c2.out old.stands;
+      stands = stands_on s c c2.entries c2.out c2.access old.stands;
       covered = covered_on s (charges c.first c.entries + broken_in s + u) (charges c.first c2.entries + broken_in s + u2) u u2 p now (omega (arith, grown, spent)) old.covered;
     })
 

@@ -17,6 +17,7 @@ use Rattle.pfc_core.specs.Calls.{Decides, Drops, Unpins}
 use Rattle.pfc_core.specs.Finishes.{Finishes, Releases, ReleasesAll, ReleasesDisk, ReleasesDisks, served_entries}
 use Rattle.pfc_core.specs.Leaves.{leaves, pins_on}
 use Rattle.pfc_core.specs.Marks.{Mark, listed}
+use Rattle.pfc_core.specs.Access.{AccessView}
 use Rattle.pfc_core.specs.View.{CoreView, entered}
 use Rattle.pfc_read.specs.Ends.{EndsRead}
 use Rattle.pfc_read.specs.OpView.{OpView}
@@ -113,6 +114,10 @@ calm_kept c c2 same = quiet_calmly c.entries c2.entries (quiet_kept c c2 same)
 
 pub calm_entered : (c c2 : CoreView) (x : Entry) (out : List Mark) → c2 ≡ entered c x out → is_quiet x ≡ true → GrowsCalmly c.entries c2.entries
 calm_entered c c2 x out enters quiet = quiet_calmly c.entries c2.entries (quiet_entered c c2 x out enters quiet)
+
+-- so it is by a call that begins or ends an access too
+pub calm_visited : (c c2 : CoreView) (x : Entry) (out : List Mark) (a : AccessView) → c2 ≡ record (entered c x out) { access = a } → is_quiet x ≡ true → GrowsCalmly c.entries c2.entries
+calm_visited c c2 x out a enters quiet = quiet_calmly c.entries c2.entries (quiet_one c.entries c2.entries x (ap (λ (v : CoreView). v.entries) enters) quiet)
 
 pub calm_plans : (c c2 : CoreView) (n : ℕ) (piece : Piece) (op : OpView) → Plans c n piece op c2 → GrowsCalmly c.entries c2.entries
 calm_plans c c2 n piece op plans = quiet_calmly c.entries c2.entries (quiet_plans c c2 n piece op plans)

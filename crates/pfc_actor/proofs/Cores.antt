@@ -12,6 +12,7 @@ use Rattle.pfc_client.specs.declared.reply.Reply.TheVariants as r
 use Rattle.pfc_core.specs.Calls.{Attaches, Detaches}
 use Rattle.pfc_core.specs.LineView.{LineView}
 use Rattle.pfc_core.specs.Marks.{Mark}
+use Rattle.pfc_core.specs.Access.{AccessView, come_in, go_out}
 use Rattle.pfc_core.specs.View.{CoreView, entered}
 use Rattle.pfc_actor.specs.Books.{BookView, IsNext, open_weight}
 use Rattle.pfc_actor.specs.StageView.{StageView, Rest, Closing}
@@ -26,6 +27,9 @@ use Rattle.pfc_actor.proofs.Entering.{gained_one, no_room, step_on}
 
 pub still_home : (c c2 : CoreView) (x : Entry) (out : List Mark) → c2 ≡ entered c x out → c2 ≡ record c { entries = c2.entries; out = c2.out }
 still_home c c2 x out same = subst (λ (v : CoreView). v ≡ record c { entries = v.entries; out = v.out }) (sym same) refl
+
+still_visited : (c c2 : CoreView) (x : Entry) (out : List Mark) (a : AccessView) → c2 ≡ record (entered c x out) { access = a } → c2 ≡ record c { entries = c2.entries; out = c2.out; access = c2.access }
+still_visited c c2 x out a same = subst (λ (v : CoreView). v ≡ record c { entries = v.entries; out = v.out; access = v.access }) (sym same) refl
 
 pub less : (k a b : ℕ) → a ≤ b → k * a ≤ k * b
 less k a b le = grind (arith, le)
@@ -57,14 +61,15 @@ own_step b b2 l l2 st st2 c c2 own same = rw same (record {
 })
 
 -- the file is open
-pub opened_step : (b b2 : BookView) (l : LineView) (st : StageView) (c c2 : CoreView) (number n size : ℕ) (path : List ℕ) (stay : Mark) → ((w : Mark → ℕ) → stage_weight w st ≡ 0) → owed st ≡ 0 → failing st ≡ 0 → asking st ≡ 1 →
-    ((i : ℕ) → shares i st ≡ no_shares) → full_in st ≡ None → IsNext b (Ok (q.Open number path)) → n ≡ b.number → Attaches c n stay c2 → ((w : Mark → ℕ) → open_weight w b2.stays ≡ open_weight w b.stays + w stay) →
+pub opened_step : (b b2 : BookView) (l : LineView) (st : StageView) (c c2 : CoreView) (number n now size : ℕ) (path : List ℕ) (stay : Mark) → ((w : Mark → ℕ) → stage_weight w st ≡ 0) → owed st ≡ 0 → failing st ≡ 0 → asking st ≡ 1 →
+    ((i : ℕ) → shares i st ≡ no_shares) → full_in st ≡ None → IsNext b (Ok (q.Open number path)) → n ≡ b.number → Attaches c n now stay c2 → ((w : Mark → ℕ) → open_weight w b2.stays ≡ open_weight w b.stays + w stay) →
     b2.number ≡ b.number → b2.asked ≡ b.asked → b2.replies ≡ b.replies ++ r.Size size ∷ [] → Step b l st c b2 l Rest c2
-opened_step b b2 l st c c2 number n size path stay light unowed whole asks lone none next mine attaches weighs num asked replies =
+opened_step b b2 l st c c2 number n now size path stay light unowed whole asks lone none next mine attaches weighs num asked replies =
     let g : Tally = gain b.number (owners c.entries) (e.Opened b.number) in
-    let enters : c2 ≡ entered c (e.Opened b.number) c2.out = attaches.enters ∙ ap (λ (m : ℕ). entered c (e.Opened m) c2.out) mine in
+    let a : AccessView = come_in now c.out c.access in
+    let enters : c2 ≡ record (entered c (e.Opened b.number) c2.out) { access = a } = attaches.enters ∙ ap (λ (m : ℕ). record (entered c (e.Opened m) c2.out) { access = a }) mine in
     let one : g.opened ≡ 1 = ap (λ (q : Bool). if q then 1 else 0) (eq_self b.number) in
-    step_on b b2 l l st Rest c c2 g num refl asked (still_home c c2 (e.Opened b.number) c2.out enters)
+    step_on b b2 l l st Rest c c2 g num refl asked (still_visited c c2 (e.Opened b.number) c2.out a enters)
     (λ w. let h = weighs w in let m = attaches.gains w in let z = light w in omega (arith, h, m, z))
     (gained_one b.number c.entries c2.entries (e.Opened b.number) (ap (λ (v : CoreView). v.entries) enters) refl)
     (λ t old. told b b2 l l st Rest t (together t g) (Ok (q.Open number path)) (r.Size size) asked replies next
@@ -73,16 +78,17 @@ opened_step b b2 l st c c2 number n size path stay light unowed whole asks lone 
     (rw (lone c.instance) (no_room c.block_size g refl refl refl))
     (λ i other. rw (lone i) (shrinks_same no_shares))
     (plain_grows (full_in st) c c2 none (plain_one c.entries c2.entries (e.Opened b.number) (ap (λ (v : CoreView). v.entries) enters) refl))
-    (fresh_attached c c2 n stay attaches) tt
+    (fresh_attached c c2 n now stay attaches) tt
 
 -- the file is closed
-pub closed_step : (b b2 : BookView) (l : LineView) (c c2 : CoreView) (number : ℕ) (stay : Mark) → IsNext b (Ok (q.Close number)) → stay.client ≡ b.number → Detaches c stay c2 →
+pub closed_step : (b b2 : BookView) (l : LineView) (c c2 : CoreView) (number now : ℕ) (stay : Mark) → IsNext b (Ok (q.Close number)) → stay.client ≡ b.number → Detaches c now stay c2 →
     ((w : Mark → ℕ) → open_weight w b2.stays + w stay ≡ open_weight w b.stays) → b2.number ≡ b.number → b2.asked ≡ b.asked → b2.replies ≡ b.replies ++ r.Closed ∷ [] →
     Step b l (Closing number) c b2 l st.Closed c2
-closed_step b b2 l c c2 number stay next mine detaches weighs num asked replies =
+closed_step b b2 l c c2 number now stay next mine detaches weighs num asked replies =
     let g : Tally = gain b.number (owners c.entries) (e.Closed b.number) in
-    let enters : c2 ≡ entered c (e.Closed b.number) c2.out = detaches.enters ∙ ap (λ (m : ℕ). entered c (e.Closed m) c2.out) mine in
-    step_on b b2 l l (Closing number) st.Closed c c2 g num refl asked (still_home c c2 (e.Closed b.number) c2.out enters)
+    let a : AccessView = go_out now c2.out c.access in
+    let enters : c2 ≡ record (entered c (e.Closed b.number) c2.out) { access = a } = detaches.enters ∙ ap (λ (m : ℕ). record (entered c (e.Closed m) c2.out) { access = a }) mine in
+    step_on b b2 l l (Closing number) st.Closed c c2 g num refl asked (still_visited c c2 (e.Closed b.number) c2.out a enters)
     (λ w. let h = weighs w in let m = detaches.loses w in omega (arith, h, m))
     (gained_one b.number c.entries c2.entries (e.Closed b.number) (ap (λ (v : CoreView). v.entries) enters) refl)
     (λ t old. told b b2 l l (Closing number) st.Closed t (together t g) (Ok (q.Close number)) r.Closed asked replies next
@@ -94,12 +100,13 @@ closed_step b b2 l c c2 number stay next mine detaches weighs num asked replies 
     (fresh_lost c c2 stay detaches.loses) tt
 
 -- the file is closed without a reply
-pub shut_step : (b b2 : BookView) (l : LineView) (c c2 : CoreView) (stay : Mark) → stay.client ≡ b.number → Detaches c stay c2 → ((w : Mark → ℕ) → open_weight w b2.stays + w stay ≡ open_weight w b.stays) →
+pub shut_step : (b b2 : BookView) (l : LineView) (c c2 : CoreView) (now : ℕ) (stay : Mark) → stay.client ≡ b.number → Detaches c now stay c2 → ((w : Mark → ℕ) → open_weight w b2.stays + w stay ≡ open_weight w b.stays) →
     b2.number ≡ b.number → b2.asked ≡ b.asked → b2.replies ≡ b.replies → Step b l Rest c b2 l Rest c2
-shut_step b b2 l c c2 stay mine detaches weighs num asked replies =
+shut_step b b2 l c c2 now stay mine detaches weighs num asked replies =
     let g : Tally = gain b.number (owners c.entries) (e.Closed b.number) in
-    let enters : c2 ≡ entered c (e.Closed b.number) c2.out = detaches.enters ∙ ap (λ (m : ℕ). entered c (e.Closed m) c2.out) mine in
-    step_on b b2 l l Rest Rest c c2 g num refl asked (still_home c c2 (e.Closed b.number) c2.out enters)
+    let a : AccessView = go_out now c2.out c.access in
+    let enters : c2 ≡ record (entered c (e.Closed b.number) c2.out) { access = a } = detaches.enters ∙ ap (λ (m : ℕ). record (entered c (e.Closed m) c2.out) { access = a }) mine in
+    step_on b b2 l l Rest Rest c c2 g num refl asked (still_visited c c2 (e.Closed b.number) c2.out a enters)
     (λ w. let h = weighs w in let m = detaches.loses w in omega (arith, h, m))
     (gained_one b.number c.entries c2.entries (e.Closed b.number) (ap (λ (v : CoreView). v.entries) enters) refl)
     (λ t old. quiet b b2 l l Rest Rest t (together t g) asked replies (omega arith) (omega arith) (omega arith) (made l l Rest Rest t (together t g) 0 0 (omega arith) (omega arith) (omega arith))

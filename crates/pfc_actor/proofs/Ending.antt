@@ -24,9 +24,10 @@ use Rattle.pfc_read.specs.OpView.{OpView}
 use Rattle.pfc_actor.specs.Books.{BookView, IsNext, file_in}
 use Rattle.pfc_actor.specs.StageView.{Rest, Ending}
 use Rattle.pfc_actor.specs.Steps.{Step, Knows}
-use Rattle.pfc_actor.proofs.Entering.{Gained}
+use Rattle.pfc_actor.proofs.Entering.{Gained, still}
 use Rattle.pfc_actor.proofs.Growing.{quiet_plainly}
 use Rattle.pfc_actor.proofs.Calm.{quiet_ended}
+use Rattle.pfc_core.specs.Access.{with_read}
 use Rattle.pfc_actor.proofs.Going.{ended_step, shares_here, none_more}
 use Rattle.pfc_actor.proofs.Holding.{of_file}
 
@@ -58,7 +59,7 @@ pub served_step : (told : Bool) (files : Files) (b b2 : BookView) (l : LineView)
 served_step told files b b2 l op c c2 number bytes s next answered knows here none mine ended brought whole =
     let known = reading_known b op c knows here in let closes = ended.known (ended.lists known) in let size = ap (λ (k : ℕ). k * op.hits) (reading_blocks b op c knows here) in
     let size2 = ap (λ (k : ℕ). k * op.waits) (reading_blocks b op c knows here) in let size3 = ap (λ (k : ℕ). k * op.directs) (reading_blocks b op c knows here) in
-    ended_step b b2 l op c c2 (served_gain s) number (r.Bytes bytes) next answered here none closes.unchanged (ended.spends known)
+    ended_step b b2 l op c c2 (served_gain s) number (r.Bytes bytes) next answered here none (still c c2 (with_read (Some s) c.access) closes.unchanged) (ended.spends known)
     (its_tally b op c c2 (served_gain s) mine (closes.mine ∙ served_more (tally op.reading.client c.entries) s) closes.others)
     (record { size = refl; opened = refl; served = refl; read = brought.sum; landed = refl; faults = refl; wants = refl; directs = refl })
     (omega (arith, whole))
@@ -71,7 +72,7 @@ pub unserved_step : (b b2 : BookView) (l : LineView) (op : OpView) (c c2 : CoreV
     is_size reply ≡ false → is_data reply ≡ false → bytes_in reply ≡ 0 → lost_at (Ok (q.Read number op.piece)) reply ≡ op.piece.len → op.failed ≤ op.piece.len → Step b l (Ending op) c b2 l Rest c2
 unserved_step b b2 l op c c2 number reply next answered knows here none mine ended size bare empty loses few =
     let known = reading_known b op c knows here in let closes = ended.known (ended.lists known) in
-    ended_step b b2 l op c c2 nothing number reply next answered here none closes.unchanged (ended.spends known)
+    ended_step b b2 l op c c2 nothing number reply next answered here none (still c c2 c.access closes.unchanged) (ended.spends known)
     (its_tally b op c c2 nothing mine (closes.mine ∙ sym (nothing_more (tally op.reading.client c.entries))) closes.others)
     (record { size = size; opened = refl; served = sym (ap {B = ℕ} (λ (q : Bool). if q then 1 else 0) bare); read = sym empty; landed = refl; faults = refl; wants = refl; directs = refl })
     (omega (arith, loses, few))

@@ -9,6 +9,7 @@ use Rattle.pfc_log.proofs.Tallied.{tally_more, tally_same, together_assoc, nothi
 use Rattle.pfc_core.specs.LineView.{LineView}
 use Rattle.pfc_core.specs.Marks.{Mark}
 use Rattle.pfc_core.specs.OpenJobs.{settled}
+use Rattle.pfc_core.specs.Access.{AccessView}
 use Rattle.pfc_core.specs.View.{CoreView}
 use Rattle.pfc_actor.specs.Books.{BookView}
 use Rattle.pfc_actor.specs.StageView.{StageView}
@@ -48,8 +49,12 @@ within_on s s2 k t g room old = record {
 pub no_room : (k : ℕ) (g : Tally) → g.hit ≡ 0 → g.missed ≡ 0 → g.bypassed ≡ 0 → HasRoom no_shares no_shares k g
 no_room k g hit missed bypassed = record { hit = omega (arith, hit); missed = omega (arith, missed); bypassed = omega (arith, bypassed) }
 
+-- a core that changes by no more than this
+pub still : (c c2 : CoreView) (a : AccessView) → c2 ≡ record c { entries = c2.entries; out = c2.out; access = a } → c2 ≡ record c { entries = c2.entries; out = c2.out; access = c2.access }
+still c c2 a home = home ∙ ap (λ (x : AccessView). record c { entries = c2.entries; out = c2.out; access = x }) (sym (ap (λ (v : CoreView). v.access) home))
+
 pub step_on : (b b2 : BookView) (l l2 : LineView) (st st2 : StageView) (c c2 : CoreView) (g : Tally) → b2.number ≡ b.number → l2.number ≡ l.number → b2.asked ≡ b.asked →
-    c2 ≡ record c { entries = c2.entries; out = c2.out } → ((w : Mark → ℕ) → weight w b2 st2 + sum_by w c.out ≡ weight w b st + sum_by w c2.out) → Gained b.number c.entries c2.entries g →
+    c2 ≡ record c { entries = c2.entries; out = c2.out; access = c2.access } → ((w : Mark → ℕ) → weight w b2 st2 + sum_by w c.out ≡ weight w b st + sum_by w c2.out) → Gained b.number c.entries c2.entries g →
     ((t : Tally) → IsTallied b l st t → IsTallied b2 l2 st2 (together t g)) → HasRoom (shares c.instance st) (shares c.instance st2) c.block_size g →
     ((i : ℕ) → (i == c.instance) ≡ false → Shrinks (shares i st) (shares i st2)) → GrowsBy (full_in st) c c2 → sum_by (settled c2) c2.out ≤ sum_by (settled c2) c.out → StaysFull st st2 → Step b l st c b2 l2 st2 c2
 step_on b b2 l l2 st st2 c c2 g number link asked home tokens gained tallied room elsewhere grows fresh full = record {

@@ -66,8 +66,8 @@ gives_on c mid c2 first later w light = let f = first w light in let l = later w
 
 -- ---- a token that is gained or lost
 
-pub fresh_attached : (c c2 : CoreView) (n : ℕ) (stay : Mark) → Attaches c n stay c2 → sum_by (settled c2) c2.out ≤ sum_by (settled c2) c.out
-fresh_attached c c2 n stay attaches = gives_gained c c2 stay attaches.gains (plain_of _ stay attaches.stays.kind_is refl refl) (settled c2) (settled_light c2)
+pub fresh_attached : (c c2 : CoreView) (n now : ℕ) (stay : Mark) → Attaches c n now stay c2 → sum_by (settled c2) c2.out ≤ sum_by (settled c2) c.out
+fresh_attached c c2 n now stay attaches = gives_gained c c2 stay attaches.gains (plain_of _ stay attaches.stays.kind_is refl refl) (settled c2) (settled_light c2)
 
 pub fresh_lost : (c c2 : CoreView) (m : Mark) → Loses c.out m c2.out → sum_by (settled c2) c2.out ≤ sum_by (settled c2) c.out
 fresh_lost c c2 m loses = let l = loses (settled c2) in omega (arith, l)

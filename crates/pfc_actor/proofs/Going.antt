@@ -46,7 +46,7 @@ use Rattle.pfc_actor.proofs.Growing.{plain_one, plain_same, quiet_plainly}
 use Rattle.pfc_actor.proofs.Calm.{quiet_plans}
 use Rattle.pfc_actor.proofs.Giving.{fresh_lost, fresh_plans}
 use Rattle.pfc_actor.proofs.Steps.{full_on, shrinks_same}
-use Rattle.pfc_actor.proofs.Entering.{Gained, gained_one, gained_same, HasRoom, step_on}
+use Rattle.pfc_actor.proofs.Entering.{Gained, gained_one, gained_same, HasRoom, step_on, still}
 use Rattle.pfc_actor.proofs.Cores.{still_home, own_step}
 
 -- the stage is one of this read
@@ -100,7 +100,7 @@ read_step : (b : BookView) (l l2 : LineView) (st st2 : StageView) (op op2 : OpVi
     op.reading.instance ≡ c.instance → l2.number ≡ l.number → c2 ≡ record c { entries = c2.entries; out = c2.out } → ((w : Mark → ℕ) → weight w b st2 + sum_by w c.out ≡ weight w b st + sum_by w c2.out) →
     Gained b.number c.entries c2.entries g → ((t : Tally) → GoesOn l l2 st st2 t (together t g) 0) → l.faults ≤ l2.faults → RoseBy l.faults g.faults l2.faults → GrowsBy (full_in st) c c2 → sum_by (settled c2) c2.out ≤ sum_by (settled c2) c.out → StaysFull st st2 → Step b l st c b l2 st2 c2
 read_step b l l2 st st2 op op2 c c2 g was is on silent here number home tokens gained goes climbs rose grows fresh full =
-    step_on b b l l2 st st2 c c2 g refl number refl home tokens gained
+    step_on b b l l2 st st2 c c2 g refl number refl (still c c2 c.access home) tokens gained
     (λ t old. quiet b b l l2 st st2 t (together t g) refl refl (omega (arith, silent.opened)) (omega (arith, silent.served)) (omega (arith, silent.hit, silent.missed, silent.bypassed)) (goes t)
     (rise t.faults g.faults l.faults l2.faults old.faults climbs rose) (omega (arith, was.fails, is.fails, on.failed)) old)
     (rw (was.shares_are c.instance, is.shares_are c.instance) (op_room c.instance c.block_size op op2 g on silent here))
@@ -352,7 +352,7 @@ asked_more t hits waits directs =
 pub planned_step : (b : BookView) (l : LineView) (number n : ℕ) (piece : Piece) (op : OpView) (c c2 : CoreView) → Plans c n piece op c2 → n ≡ b.number → Step b l (Planning number piece) c b l (Reading op) c2
 planned_step b l number n piece op c c2 plans mine =
     let g : Tally = record nothing { hits = op.hits; waits = op.waits; directs = op.directs } in
-    step_on b b l l (Planning number piece) (Reading op) c c2 g refl refl refl plans.unchanged
+    step_on b b l l (Planning number piece) (Reading op) c c2 g refl refl refl (still c c2 c.access plans.unchanged)
     (λ w. let s = plans.gains w in omega (arith, s))
     (record {
       mine = subst (λ (m : ℕ). tally m c2.entries ≡ together (tally m c.entries) g) mine (plans.mine ∙ asked_more (tally n c.entries) op.hits op.waits op.directs);
@@ -391,7 +391,7 @@ answers_end reply t g with = record {
 
 -- the read is answered
 pub ended_step : (b b2 : BookView) (l : LineView) (op : OpView) (c c2 : CoreView) (g : Tally) (number : ℕ) (reply : Reply) → IsNext b (Ok (q.Read number op.piece)) → b2 ≡ record b { replies = b.replies ++ reply ∷ [] } →
-    op.reading.instance ≡ c.instance → op.leaves ≡ 0 → c2 ≡ record c { entries = c2.entries; out = c2.out } → ((w : Mark → ℕ) → sum_by w c2.out + held w op ≡ sum_by w c.out) → Gained b.number c.entries c2.entries g →
+    op.reading.instance ≡ c.instance → op.leaves ≡ 0 → c2 ≡ record c { entries = c2.entries; out = c2.out; access = c2.access } → ((w : Mark → ℕ) → sum_by w c2.out + held w op ≡ sum_by w c.out) → Gained b.number c.entries c2.entries g →
     EndsWith reply g → op.failed ≤ lost_at (Ok (q.Read number op.piece)) reply → HasRoom (op_shares c.instance op) no_shares c.block_size g → GrowsPlainly c.entries c2.entries → Step b l (Ending op) c b2 l Rest c2
 ended_step b b2 l op c c2 g number reply next answered here none home spends gained with fails room grows =
     step_on b b2 l l (Ending op) Rest c c2 g (ap (λ (v : BookView). v.number) answered) refl (ap (λ (v : BookView). v.asked) answered) home

@@ -225,5 +225,5 @@ pub record LoanStep (c : CoreView) (b : BackingView) (c2 : CoreView) (b2 : Backi
 pub record AllowsLeave (i : ℕ) (c : CoreView) (b b2 : BackingView) : Type 0 where
   pub stand_is : b2.stand ≡ b.stand
   pub before_is : b2.before ≡ b.before
-  pub backed : (n : ℕ) (c2 : CoreView) → c2 ≡ record c { entries = c2.entries; out = c2.out } → c2.entries ≡ c.entries ++ Direct i n Device ∷ [] → IsBackingOf c b → IsBackingOf c2 b2
+  pub backed : (n : ℕ) (c2 : CoreView) → c2 ≡ record c { entries = c2.entries; out = c2.out; access = c2.access } → c2.entries ≡ c.entries ++ Direct i n Device ∷ [] → IsBackingOf c b → IsBackingOf c2 b2
   pub charges : b.stand ≡ Bare → (n : ℕ) → charges c.first (c.entries ++ Direct i n Device ∷ []) ≡ charges c.first c.entries

@@ -1,11 +1,12 @@
 -- What contracts see of a client.
-use Rattle.std.specs.Prelude.{◌≡◌, ◌≤◌, ℕ, Bool, List, [], length, count_by, Option, Some, None, replicate, false}
+use Rattle.std.specs.Prelude.{◌≡◌, ◌≤◌, ◌⊎◌, ℕ, Bool, List, [], length, count_by, Option, Some, None, replicate, false}
 use Rattle.pfc_world.specs.Files.{Files}
 use Rattle.pfc_world.specs.Counts.{RoseBy}
 use Rattle.pfc_log.specs.Tallies.{Tally}
 use Rattle.pfc_client.specs.Permitted.{Table, Walk, nothing_open, is_fetch}
 use Rattle.pfc_core.specs.LineView.{LineView}
 use Rattle.pfc_core.specs.Marks.{Mark, sees}
+use Rattle.pfc_core.specs.Access.{come_in}
 use Rattle.pfc_core.specs.View.{CoreView}
 use Rattle.pfc_actor.specs.declared.client.Place.{Place}
 use Rattle.pfc_actor.specs.declared.client.Place.TheVariants as place
@@ -15,11 +16,13 @@ use Rattle.pfc_actor.specs.StageView as st
 use Rattle.pfc_actor.specs.Stages.{AtWork, Here, weight, shares}
 use Rattle.pfc_actor.specs.Steps.{IsCaused, IsTallied, Shrinks, StaysFull}
 
--- what it asked and was told, its line to the origin, and how far it has come with its request
+-- what it asked and was told, its line to the origin, how far it has come with its request, and the moment at which its open
+-- opened the store
 pub record ClientView : Type 0 where
   pub book : BookView
   pub line : LineView
   pub stage : StageView
+  pub moment : Option ℕ
 
 -- the request at work fits the book, each failed fetch has its fault, and the line is the client's
 pub record IsClient (b : BookView) (l : LineView) (st : StageView) : Type 0 where
@@ -76,6 +79,16 @@ leaving_of _ = None
 abbrev pub Wants : List ℕ → StageView → Type 0
 Wants path (st.Wanted wanted) = wanted.path ≡ path
 Wants path _ = ⊥
+
+-- a core is entered at this moment, where there is memory for it
+abbrev pub EntersAt : ℕ → CoreView → CoreView → Type 0
+EntersAt now c c2 = (c2 ≡ c) ⊎ (c2.access ≡ come_in now c.out c.access)
+
+-- so it is by a step of an open
+abbrev pub OpensAtMoment : ℕ → StageView → CoreView → CoreView → Type 0
+OpensAtMoment now (st.Making wanted) c c2 = EntersAt now c c2
+OpensAtMoment now (st.Joining wanted) c c2 = EntersAt now c c2
+OpensAtMoment now _ c c2 = Unit {0}
 
 -- a core of this path is made or entered
 abbrev pub Enters : List ℕ → StageView → Type 0

@@ -71,7 +71,7 @@ pub record Step (b : BookView) (l : LineView) (st : StageView) (c : CoreView) (b
   pub number : b2.number ≡ b.number
   pub link : l2.number ≡ l.number
   pub asked : b2.asked ≡ b.asked
-  pub home : c2 ≡ record c { entries = c2.entries; out = c2.out }
+  pub home : c2 ≡ record c { entries = c2.entries; out = c2.out; access = c2.access }
   pub tokens : (w : Mark → ℕ) → weight w b2 st2 + sum_by w c.out ≡ weight w b st + sum_by w c2.out
   pub tallied : (rest : Tally) → IsTallied b l st (together rest (tally b.number c.entries)) → IsTallied b2 l2 st2 (together rest (tally b.number c2.entries))
   pub within : IsWithin (shares c.instance st) c.block_size (tally b.number c.entries) → IsWithin (shares c.instance st2) c.block_size (tally b.number c2.entries)

@@ -11,6 +11,7 @@ use crate::volume::{
     spend, turn_of, write_by,
 };
 use pfc_base::{BlockSet, Memory};
+use pfc_cinfo::Head;
 use pfc_core::{FileCore, Loan, Turn};
 use pfc_store::FileStore;
 use pfc_world::{DataDev, Depot, InfoDev, Known, Origin, Refusal, Taken, World};
@@ -130,6 +131,16 @@ impl<W: World, P: Depot<W>> Backing<W, P> {
     {
         match &self.held {
             Held::Open(store) => copied(alloc, store),
+            _ => Err(Memory),
+        }
+    }
+
+    /// A copy of the head of the store's cinfo.
+    pub fn head(&self, alloc: Global) -> Result<Head, Memory>
+        requires { IsOpen self.now.stand }
+    {
+        match &self.held {
+            Held::Open(store) => store.head().copy(alloc),
             _ => Err(Memory),
         }
     }

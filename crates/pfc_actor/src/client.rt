@@ -8,7 +8,7 @@ ghost use Rattle.pfc_actor.specs.declared.client.Place.TheVariants as place;
 ghost use Rattle.pfc_actor.specs.Seen.{seen};
 ghost use Rattle.pfc_actor.specs.Stages.{AtWork, Here};
 ghost use Rattle.pfc_actor.specs.Steps.{IsCaused, Knows, Own, Step};
-ghost use Rattle.pfc_actor.specs.Clients.{ClientView, IsFresh, IsPlace, IsDone, OpensAt, Moves, Wants};
+ghost use Rattle.pfc_actor.specs.Clients.{ClientView, IsFresh, IsPlace, IsDone, OpensAt, OpensAtMoment, Moves, Wants};
 
 mod disk;
 
@@ -21,17 +21,18 @@ use pfc_base::{Memory, Path};
 use pfc_client::Reply;
 use pfc_core::{FileCore, Line, OnDisk};
 use pfc_read::ReadOp;
-use pfc_world::{Origin, World};
+use pfc_world::{Clock, Origin, World};
 use std::alloc::Global;
 use std::marker::Model;
 use std::mem;
 
-/// One client: what it asks and is told, its line to the origin, and how far it has come with its request. It must be
-/// ended by `end`.
+/// One client: what it asks and is told, its line to the origin, how far it has come with its request, and the moment at which
+/// its open opened the store, in seconds. It must be ended by `end`.
 pub struct Client<W: World, O: Origin<W>> {
     book: Book<W>,
     line: Line<W, O>,
     stage: Stage<W>,
+    moment: Option<u64>,
 }
 
 impl<W: World, O: Origin<W>> Model for Client<W, O> {
@@ -40,7 +41,7 @@ impl<W: World, O: Origin<W>> Model for Client<W, O> {
 
     ghost Value = { ClientView };
 
-    ghost view = { λ c. record { book = c.book; line = c.line; stage = seen c.stage } };
+    ghost view = { λ c. record { book = c.book; line = c.line; stage = seen c.stage; moment = c.moment } };
 
     ghost invariant = { λ c. IsClient c.book c.line (seen c.stage) };
 }
@@ -126,12 +127,14 @@ fn next_alone<W: World, O: Origin<W>>(
 }
 
 /// The next stage, by a step on a core.
-fn next_at<W: World, O: Origin<W>>(
+fn next_at<W: World, O: Origin<W>, K: Clock>(
     alloc: Global,
+    clock: &mut K,
     book: &mut Book<W>,
     line: &mut Line<W, O>,
     core: &mut FileCore<W>,
     stage: Stage<W>,
+    moment: Option<u64>,
 ) -> Stage<W>
     requires work { AtWork book.old (seen stage) }
     requires knows { Knows book.old (seen stage) core.old }
@@ -142,12 +145,13 @@ fn next_at<W: World, O: Origin<W>>(
     ensures caused { IsCaused book.new line.new (seen result) }
     ensures step { Step book.old line.old (seen stage) core.old book.new line.new (seen result) core.new }
     ensures calm { GrowsCalmly core.old.entries core.new.entries }
+    ensures moment { IfSome moment (λ now. OpensAtMoment now (seen stage) core.old core.new) }
 {
     match stage {
-        Stage::Making(wanted, _) => open(book, line, core, wanted),
-        Stage::Joining(wanted) => open(book, line, core, wanted),
+        Stage::Making(wanted, _) => open(alloc, clock, book, line, core, wanted, moment),
+        Stage::Joining(wanted) => open(alloc, clock, book, line, core, wanted, moment),
         Stage::Planning(number, piece) => plan(alloc, book, line, core, number, piece),
-        Stage::Closing(number) => close(book, line, core, number),
+        Stage::Closing(number) => close(alloc, clock, book, line, core, number),
         Stage::Reading(op) => act(alloc, book, line, core, op),
         Stage::Full(op, job, capacity) => drop_full(book, line, core, op, job, capacity),
         other => other,
@@ -208,6 +212,7 @@ impl<W: World, O: Origin<W>> Client<W, O> {
             book,
             line: Line::new(link),
             stage: Stage::Rest,
+            moment: None,
         }
     }
 
@@ -316,6 +321,7 @@ impl<W: World, O: Origin<W>> Client<W, O> {
     {
         let stage = mem::replace(&mut self.stage, Stage::Rest);
         let next = entered(&self.book, &self.line, stage, made);
+        self.moment = None;
         spend(mem::replace(&mut self.stage, next));
     }
 
@@ -337,16 +343,27 @@ impl<W: World, O: Origin<W>> Client<W, O> {
         spend(mem::replace(&mut self.stage, next));
     }
 
-    /// A step on a core.
-    pub fn step_at(&mut self, alloc: Global, core: &mut FileCore<W>)
+    /// Its open opened the store at this moment, in seconds, so it opens the file at the same.
+    pub fn note(&mut self, moment: u64)
+        ensures noted { self.new ≡ record self.old { moment = Some moment } }
+        ensures own { Own self.old.book self.old.line self.old.stage self.new.book self.new.line self.new.stage }
+    {
+        self.moment = Some(moment);
+    }
+
+    /// A step on a core. The clock is read where the file is closed, and where it is opened by an open that didn't open the store.
+    pub fn step_at<K: Clock>(&mut self, alloc: Global, clock: &mut K, core: &mut FileCore<W>)
         requires knows { Knows self.old.book self.old.stage core.old }
         requires here { Here self.old.book self.old.stage core.old }
         requires least { 4096 ≤ core.old.block_size }
         ensures step { Step self.old.book self.old.line self.old.stage core.old self.new.book self.new.line self.new.stage core.new }
         ensures calm { GrowsCalmly core.old.entries core.new.entries }
+        ensures moment { IfSome self.old.moment (λ now. OpensAtMoment now self.old.stage core.old core.new) }
     {
         let stage = mem::replace(&mut self.stage, Stage::Rest);
-        let next = next_at(alloc, &mut self.book, &mut self.line, core, stage);
+        let moment = mem::replace(&mut self.moment, None);
+        let (book, line) = (&mut self.book, &mut self.line);
+        let next = next_at(alloc, clock, book, line, core, stage, moment);
         spend(mem::replace(&mut self.stage, next));
     }
 
@@ -374,13 +391,13 @@ impl<W: World, O: Origin<W>> Client<W, O> {
     }
 
     /// Closes the lowest descriptor that is open, without a reply, where its file is of this core and the client is done.
-    pub fn shut_at(&mut self, core: &mut FileCore<W>)
+    pub fn shut_at<K: Clock>(&mut self, alloc: Global, clock: &mut K, core: &mut FileCore<W>)
         requires knows { Knows self.old.book self.old.stage core.old }
         ensures step { Step self.old.book self.old.line self.old.stage core.old self.new.book self.new.line self.new.stage core.new }
         ensures calm { GrowsCalmly core.old.entries core.new.entries }
     {
         if self.is_done() {
-            shut(&mut self.book, &self.line, core);
+            shut(alloc, clock, &mut self.book, &self.line, core);
         }
     }
 
@@ -393,7 +410,12 @@ impl<W: World, O: Origin<W>> Client<W, O> {
         ensures calls { O.calls result.1 ≡ self.line.calls }
         ensures faults { O.faults result.1 ≡ self.line.faults }
     {
-        let Client { book, line, stage } = self;
+        let Client {
+            book,
+            line,
+            stage,
+            moment: _,
+        } = self;
         spend(stage);
         let number = book.number();
         (number, line.end(), book.end())

@@ -1,25 +1,31 @@
 // How a client opens a file, and closes it.
-ghost use Rattle.std.specs.Prelude.{◌≡◌, ◌<◌, ◌≤◌, Some, length};
+ghost use Rattle.std.specs.Prelude.{◌≡◌, ◌<◌, ◌≤◌, Some, IfSome, length};
 ghost use Rattle.pfc_core.specs.Marks.{Mark};
 ghost use Rattle.pfc_client.specs.Session.{place_at};
 ghost use Rattle.pfc_actor.specs.StageView as st;
 ghost use Rattle.pfc_actor.specs.Seen.{seen};
 ghost use Rattle.pfc_actor.specs.Stages.{AtWork, Opens};
 ghost use Rattle.pfc_log.specs.Charges.{GrowsCalmly};
+ghost use Rattle.pfc_actor.specs.Clients.{EntersAt};
 ghost use Rattle.pfc_actor.specs.Steps.{IsCaused, Knows, Own, Step};
 
 use crate::book::Book;
 use crate::stage::{Stage, Wanted};
 use pfc_client::Reply;
 use pfc_core::{FileCore, Line, Strayed};
-use pfc_world::{Origin, World};
+use pfc_world::{Clock, Origin, World};
+use std::alloc::Global;
 
-/// Opens the file: the end of an open.
-pub(crate) fn open<W: World, O: Origin<W>>(
+/// Opens the file: the end of an open. It does so at the moment, in seconds, at which the same open opened the store; where there
+/// is none the clock is read.
+pub(crate) fn open<W: World, O: Origin<W>, K: Clock>(
+    alloc: Global,
+    clock: &mut K,
     book: &mut Book<W>,
     line: &Line<W, O>,
     core: &mut FileCore<W>,
     wanted: Wanted<W>,
+    moment: Option<u64>,
 ) -> Stage<W>
     requires work { Opens book.old wanted.number wanted.path }
     requires here { core.old.path ≡ wanted.path }
@@ -29,8 +35,13 @@ pub(crate) fn open<W: World, O: Origin<W>>(
     ensures making { Step book.old line.now (st.Making wanted) core.old book.new line.now (seen result) core.new }
     ensures joining { Step book.old line.now (st.Joining wanted) core.old book.new line.now (seen result) core.new }
     ensures calm { GrowsCalmly core.old.entries core.new.entries }
+    ensures moment { IfSome moment (λ now. EntersAt now core.old core.new) }
 {
-    match core.attach(book.number()) {
+    let now = match moment {
+        Some(moment) => moment,
+        None => clock.now(),
+    };
+    match core.attach(alloc, book.number(), now) {
         Ok(stay) => {
             let size = stay.size();
             book.opened(wanted.number(), size, stay);
@@ -62,8 +73,10 @@ pub(crate) fn without<W: World, O: Origin<W>>(
     Stage::Rest
 }
 
-/// Closes the file.
-pub(crate) fn close<W: World, O: Origin<W>>(
+/// Closes the file, at the moment that the clock tells.
+pub(crate) fn close<W: World, O: Origin<W>, K: Clock>(
+    alloc: Global,
+    clock: &mut K,
     book: &mut Book<W>,
     line: &Line<W, O>,
     core: &mut FileCore<W>,
@@ -81,14 +94,16 @@ pub(crate) fn close<W: World, O: Origin<W>>(
     let Some(stay) = book.closed(number) else {
         return Stage::Closed;
     };
-    match core.detach(stay) {
+    match core.detach(alloc, stay, clock.now()) {
         Ok(()) => Stage::Closed,
         Err(Strayed { token: _, why: _ }) => Stage::Closed,
     }
 }
 
 /// Closes the lowest descriptor that is open, without a reply, where its file is of this core.
-pub(crate) fn shut<W: World, O: Origin<W>>(
+pub(crate) fn shut<W: World, O: Origin<W>, K: Clock>(
+    alloc: Global,
+    clock: &mut K,
     book: &mut Book<W>,
     line: &Line<W, O>,
     core: &mut FileCore<W>,
@@ -113,7 +128,7 @@ pub(crate) fn shut<W: World, O: Origin<W>>(
     let Some(stay) = book.shut(number) else {
         return;
     };
-    match core.detach(stay) {
+    match core.detach(alloc, stay, clock.now()) {
         Ok(()) => (),
         Err(_) => unreachable!(),
     }

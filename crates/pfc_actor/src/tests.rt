@@ -5,10 +5,11 @@ ghost use Rattle.pfc_actor.specs.Clients.{holds};
 
 use crate::{Book, Client, Place};
 use pfc_base::{BlockSet, Path, block_count};
+use pfc_cinfo::{Head, Records};
 use pfc_client::{Reply, push_reply};
 use pfc_core::{FileCore, Line};
 use pfc_log::push_log;
-use pfc_memory::{MemoryHost, MemoryLink, RowWorld};
+use pfc_memory::{ListClock, MemoryHost, MemoryLink, RowWorld};
 use pfc_world::Host;
 use pfc_writer::WriteQueue;
 use std::alloc::Global;
@@ -128,12 +129,18 @@ fn core_of(alloc: Global, host: &mut RowHost) -> Result<FileCore<RowWorld>, Fail
         return Err(Fail::new("too many blocks"));
     }
     let start = BlockSet::new(alloc, count as u32)?;
-    Ok(FileCore::new(alloc, 0, known, 4096, start)?)
+    let head = Head {
+        created: 0,
+        accesses: 0,
+        records: Records::new(alloc),
+    };
+    Ok(FileCore::new(alloc, 0, known, 4096, start, head)?)
 }
 
 /// One step of the only client of a core. Nothing of the file is on disk.
 fn step(
     alloc: Global,
+    clock: &mut ListClock,
     client: &mut RowClient,
     core: &mut FileCore<RowWorld>,
     queue: &mut WriteQueue<RowWorld>,
@@ -152,13 +159,13 @@ fn step(
                 return;
             };
             if core.known().same(&wanted.known()) {
-                client.step_at(alloc, core);
+                client.step_at(alloc, clock, core);
             }
         }
         Place::Puts => client.put(queue),
         Place::Core(instance) => {
             if instance == core.instance() {
-                client.step_at(alloc, core);
+                client.step_at(alloc, clock, core);
             }
         }
         Place::Lends(_) | Place::Reads(_) | Place::Returns(_) | Place::Leaves(_) => (),
@@ -168,6 +175,7 @@ fn step(
 /// So many steps.
 fn drive(
     alloc: Global,
+    clock: &mut ListClock,
     client: &mut RowClient,
     core: &mut FileCore<RowWorld>,
     queue: &mut WriteQueue<RowWorld>,
@@ -177,7 +185,7 @@ fn drive(
     requires tokens { (w : Mark → ℕ) → holds w client.old + sum_by w queue.old.jobs ≡ sum_by w core.old.out }
 {
     for _step in 0..steps {
-        step(alloc, client, core, queue);
+        step(alloc, clock, client, core, queue);
     }
 }
 
@@ -187,7 +195,8 @@ fn play(alloc: Global, lines: &[&str]) -> Result<(Vec<Reply>, Vec<u8>), Fail> {
     let mut core = core_of(alloc, &mut host)?;
     let mut queue = WriteQueue::new(alloc, 0)?;
     let mut client = client_of(alloc, &mut host, lines)?;
-    drive(alloc, &mut client, &mut core, &mut queue, 40);
+    let mut clock = ListClock::new(Vec::new(alloc));
+    drive(alloc, &mut clock, &mut client, &mut core, &mut queue, 40);
     let (_number, _link, replies) = client.end();
     let mut log = Vec::new(alloc);
     push_log(alloc, &mut log, core.known().path(), core.log())?;

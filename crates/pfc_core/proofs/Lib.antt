@@ -27,3 +27,4 @@ mod Looking
 mod Releasing
 mod OpenJobs
 mod Turned
+mod Stays

@@ -21,6 +21,7 @@ use Rattle.pfc_core.specs.declared.token.Decision.TheVariants as decision
 use Rattle.pfc_core.specs.Leave.{LeaveView}
 use Rattle.pfc_core.specs.Leaves.{is_here_at, is_flying_at, leaves, pins_on}
 use Rattle.pfc_core.specs.Marks.{Kind, StayKind, ReadingKind, TicketKind, PinKind, JobKind, DiskKind, Mark, listed, Gains, Loses, Swaps}
+use Rattle.pfc_core.specs.Access.{come_in, go_out}
 use Rattle.pfc_core.specs.View.{CoreView, entered}
 
 -- a token of this kind that the core gave out, for a client
@@ -43,14 +44,16 @@ pub record Strays {T : Type 0} (old : CoreView) (token : T) (m : Mark) (s : Stra
 abbrev pub foreign : CoreView → Mark → ℕ
 foreign v m = if m.instance == v.instance && pointwise ◌==◌ m.path v.path && m.size == v.size && m.block_size == v.block_size then 0 else 1
 
-pub record Attaches (old : CoreView) (n : ℕ) (stay : Mark) (new : CoreView) : Type 0 where
+-- a client opens the file at a moment
+pub record Attaches (old : CoreView) (n now : ℕ) (stay : Mark) (new : CoreView) : Type 0 where
   pub stays : IsOf old StayKind n stay
   pub gains : Gains old.out stay new.out
-  pub enters : new ≡ entered old (Opened n) new.out
+  pub enters : new ≡ record (entered old (Opened n) new.out) { access = come_in now old.out old.access }
 
-pub record Detaches (old : CoreView) (stay : Mark) (new : CoreView) : Type 0 where
+-- and closes it at a moment
+pub record Detaches (old : CoreView) (now : ℕ) (stay : Mark) (new : CoreView) : Type 0 where
   pub loses : Loses old.out stay new.out
-  pub enters : new ≡ entered old (Closed stay.client) new.out
+  pub enters : new ≡ record (entered old (Closed stay.client) new.out) { access = go_out now new.out old.access }
 
 -- no entry, but the room for one
 pub record Begins (old : CoreView) (n : ℕ) (reading : Mark) (new : CoreView) : Type 0 where

@@ -6,6 +6,7 @@ use Rattle.pfc_log.specs.declared.entry.Served.{Served}
 use Rattle.pfc_core.specs.Marks.{Mark, listed, Loses}
 use Rattle.pfc_core.specs.Calls.{Unpins}
 use Rattle.pfc_core.specs.Disks.{EndsDisk}
+use Rattle.pfc_core.specs.Access.{with_read}
 use Rattle.pfc_core.specs.View.{CoreView}
 
 -- a pin goes back where the core's list has it; a stranger changes nothing
@@ -23,10 +24,10 @@ abbrev pub served_entries : ℕ → Option Served → List Entry
 served_entries n None = []
 served_entries n (Some served) = e.Served n served ∷ []
 
--- the reading ends, with its entry
+-- the reading ends, with its entry, and the access has a read more
 pub record Ends (old : CoreView) (reading : Mark) (served : Option Served) (new : CoreView) : Type 0 where
   pub loses : Loses old.out reading new.out
-  pub enters : new ≡ record old { entries = old.entries ++ served_entries reading.client served; out = new.out }
+  pub enters : new ≡ record old { entries = old.entries ++ served_entries reading.client served; out = new.out; access = with_read served old.access }
 
 -- a right to read from disk goes back where the core's list has it; a stranger changes nothing
 pub record ReleasesDisk (old : CoreView) (disk : Mark) (new : CoreView) : Type 0 where

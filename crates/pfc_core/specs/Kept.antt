@@ -21,7 +21,7 @@ use Rattle.pfc_core.specs.Turned.{AreTurns}
 use Rattle.pfc_core.specs.View.{CoreView}
 
 abbrev pub view_of : {W : Type 0} → Inside W → CoreView
-view_of s = record { instance = s.instance; path = s.shelf.path; size = s.shelf.size; block_size = s.shelf.block_size; first = s.log.first; entries = s.log.entries; out = out_of (home_of s.instance s.shelf) s.stays.list s.readings.list s.pins.list s.disks.list s.loan s.shelf.slots; stored = s.sets.stored; durable = s.sets.durable; claimed = s.sets.claimed }
+view_of s = record { instance = s.instance; path = s.shelf.path; size = s.shelf.size; block_size = s.shelf.block_size; first = s.log.first; entries = s.log.entries; out = out_of (home_of s.instance s.shelf) s.stays.list s.readings.list s.pins.list s.disks.list s.loan s.shelf.slots; stored = s.sets.stored; durable = s.sets.durable; claimed = s.sets.claimed; access = s.access }
 
 -- each client is in as often as it has stays
 pub record AreIn (es : List Entry) (stays : List Held) : Type 0 where

@@ -1,5 +1,6 @@
 -- Loans of a file's store.
 use Rattle.std.specs.Prelude.{◌≡◌, ◌<◌, ◌⊎◌, ◌==◌, ℕ, Bool, true, false, if◌then◌else◌, List, Option, Some, None, IsSome, IsTrue, length, sum_by, count_by, slice_set}
+use Rattle.pfc_base.specs.Cinfo.{Head}
 use Rattle.pfc_log.specs.declared.entry.Entry.TheVariants.{Wrote, Synced, Claimed, Frozen}
 use Rattle.pfc_log.specs.Lawful.{IsCached, IsUnfrozen}
 use Rattle.pfc_log.specs.Views.{place, is_here, times, is_frozen}
@@ -61,15 +62,15 @@ pub record LendsFor {D I : Type 0} (aim : Aim) (for_turn : Bool) (old : CoreView
 abbrev pub Lends : {D I : Type 0} → CoreView → Option (StoreView D I) → LoanView D I → CoreView → Type 0
 Lends old home loan new = LendsFor ForBlocks false old home loan new
 
--- what a turn's loan is for; it carries a copy of the store's head
-abbrev pub aim_at : {D I : Type 0} → Turn → StoreView D I → Aim
-aim_at turn.Data s = ForSync
-aim_at turn.Info s = ForPut s.head
+-- what a turn's loan is for; it carries a copy of the head that the cinfo gets
+abbrev pub aim_at : Turn → Head → Aim
+aim_at turn.Data head = ForSync
+aim_at turn.Info head = ForPut head
 
 -- a working store is lent for a turn
 pub record LendsTurn {D I : Type 0} (for_turn : Turn) (old : CoreView) (home : Option (StoreView D I)) (loan : LoanView D I) (new : CoreView) : Type 0 where
   pub unfrozen : IsUnfrozen old.entries
-  pub lends : LendsFor (aim_at for_turn loan.store) true old home loan new
+  pub lends : LendsFor (aim_at for_turn old.access.head) true old home loan new
 
 -- the loan of this number is out
 abbrev pub IsOut : CoreView → ℕ → Type 0

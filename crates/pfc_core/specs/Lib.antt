@@ -11,6 +11,7 @@ pub mod Homes
 pub mod Tags
 pub mod Blocks
 pub mod Leave
+pub mod Access
 pub mod View
 pub mod Leaves
 pub mod Kept

@@ -7,9 +7,10 @@ use Rattle.pfc_log.specs.declared.start.Start.TheVariants as start
 use Rattle.pfc_log.specs.declared.entry.Uncached.{Uncached}
 use Rattle.pfc_core.specs.Marks.{Mark}
 use Rattle.pfc_core.specs.Out.{Home}
+use Rattle.pfc_core.specs.Access.{AccessView}
 
 -- its number, its file with the block size, its log, the marks of all tokens that are out, the blocks that can be read from
--- disk, those of them that no crash can take, and those that the cinfo claims
+-- disk, those of them that no crash can take, those that the cinfo claims, and the accesses
 pub record CoreView : Type 0 where
   pub instance : ℕ
   pub path : List ℕ
@@ -21,6 +22,7 @@ pub record CoreView : Type 0 where
   pub stored : List Bool
   pub durable : List Bool
   pub claimed : List Bool
+  pub access : AccessView
 
 abbrev pub home_in : CoreView → Home
 home_in v = record { instance = v.instance; path = v.path; size = v.size; block_size = v.block_size }

@@ -17,6 +17,7 @@ mod pins;
 mod reads;
 mod turns;
 
+use crate::access::Access;
 use crate::held::Tokens;
 use crate::loan::Lent;
 use crate::sets::Sets;
@@ -25,10 +26,12 @@ use crate::token::{Reading, Stay, Strayed, is_of, stranger, tag_of};
 use pfc_base::{BlockSet, Memory};
 use pfc_log::{Entry, FileLog, Start, Uncached};
 use pfc_world::{Known, World};
+use std::alloc::Global;
 use std::marker::Model;
 
 /// The core of one opening of one file: its number, its file with the block size, its log, what it gave out, which blocks
-/// are on disk, which place the last claim names, and the place behind the last visit. The file's store is kept beside it.
+/// are on disk, which place the last claim names, the place behind the last visit, and the accesses. The file's store is kept
+/// beside it.
 #[derive(Drop)]
 pub struct FileCore<W: World> {
     instance: u64,
@@ -44,6 +47,7 @@ pub struct FileCore<W: World> {
     begun: u64,
     claim: Option<u64>,
     visited: u64,
+    access: Access,
 }
 
 impl<W: World> Model for FileCore<W> {
@@ -168,13 +172,14 @@ impl<W: World> FileCore<W> {
         self.instance
     }
 
-    /// A client opens the file.
-    pub fn attach(&mut self, n: u32) -> Result<Stay<W>, Memory>
+    /// A client opens the file at this moment, in seconds. The first who does begins an access.
+    pub fn attach(&mut self, alloc: Global, n: u32, now: u64) -> Result<Stay<W>, Memory>
         ensures memory { OnErr result (self.new ≡ self.old) }
-        ensures ok { IfOk result (λ stay. Attaches self.old n stay self.new) }
+        ensures ok { IfOk result (λ stay. Attaches self.old n now stay self.new) }
     {
         let others = sum_of(self.readings.len(), self.pins.len(), self.disks.len())?;
         make_room(&mut self.log, &mut self.stays, others, &self.shelf)?;
+        self.access.come_in(alloc, now, self.stays.len())?;
         let held = self.stays.add(n, 0, 0, 0);
         self.log.push(Entry::Opened { client: n });
         self.visited = self.log.len();
@@ -183,9 +188,9 @@ impl<W: World> FileCore<W> {
         })
     }
 
-    /// A client closes the file.
-    pub fn detach(&mut self, stay: Stay<W>) -> Result<(), Strayed<Stay<W>>>
-        ensures ok { OnOk result (Detaches self.old stay self.new) }
+    /// A client closes the file at this moment, in seconds. The last who does ends the access.
+    pub fn detach(&mut self, alloc: Global, stay: Stay<W>, now: u64) -> Result<(), Strayed<Stay<W>>>
+        ensures ok { OnOk result (Detaches self.old now stay self.new) }
         ensures strayed { IfErr result (λ s. Strays self.old stay stay s self.new) }
     {
         let why = stranger(&stay.tag, self.instance);
@@ -200,6 +205,7 @@ impl<W: World> FileCore<W> {
             client: held.client,
         });
         self.visited = self.log.len();
+        self.access.go_out(alloc, now, self.stays.len());
         Ok(())
     }
 

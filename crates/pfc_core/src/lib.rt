@@ -1,6 +1,7 @@
 //! The core of one opening of one file: which blocks are in flight or in memory, who waits for them, and the log of it.
 #![tactic(auto)]
 
+mod access;
 mod file;
 mod held;
 mod leave;

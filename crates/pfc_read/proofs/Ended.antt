@@ -17,6 +17,7 @@ use Rattle.pfc_core.specs.Disks.{EndsDisk}
 use Rattle.pfc_core.specs.Finishes.{Releases, ReleasesAll, ReleasesDisk, ReleasesDisks, served_entries, Ends, Finishes}
 use Rattle.pfc_core.specs.Leaves.{leaves}
 use Rattle.pfc_core.specs.Marks.{Kind, Mark, PinKind, DiskKind, sees, listed, same}
+use Rattle.pfc_core.specs.Access.{with_read}
 use Rattle.pfc_core.specs.View.{CoreView}
 use Rattle.pfc_core.proofs.Weights.{same_self, same_instance, unseen}
 use Rattle.pfc_read.specs.declared.segment.Hand.{Hand}
@@ -35,12 +36,12 @@ use Rattle.pfc_read.proofs.Turned.{sum_by-map-reverse}
 sees_self : (m : Mark) → sees m m ≡ 1
 sees_self m = ap {B = ℕ} (λ (q : Bool). if q then 1 else 0) (same_self m)
 
-pub gives-back : (old : CoreView) (reading : Mark) (pins disks : List Mark) (served : Option Served) (new : CoreView) → Finishes old reading pins disks served new → new ≡ record old { entries = new.entries; out = new.out } →
+pub gives-back : (old : CoreView) (reading : Mark) (pins disks : List Mark) (served : Option Served) (new : CoreView) → Finishes old reading pins disks served new → new ≡ record old { entries = new.entries; out = new.out; access = with_read served old.access } →
     (((m : Mark) → sees m reading + listed m pins + listed m disks ≤ listed m old.out) → (w : Mark → ℕ) → sum_by w new.out + w reading + sum_by w pins + sum_by w disks ≡ sum_by w old.out) → GivesBack old reading pins disks served new
 gives-back old reading pins disks served new is rest known = record {
   known = λ some. is;
   strange = λ none. let l = is.ends.loses (sees reading) in let one = sees_self reading in absurd (omega (arith, l, one, none));
-  unchanged = rest;
+  unchanged = λ some. rest;
   spends = λ some within w. known within w;
 }
 
@@ -114,7 +115,7 @@ ends-read old op pins disks served new none pins_are disks_are same also back =
             same_pins = same;
             same_disks = also;
             finishes = is;
-            unchanged = back.unchanged;
+            unchanged = back.unchanged some;
             mine = tally-finishes op.reading.client old op.reading pins disks served new is ∙ mine-ended op.reading.client old.entries served;
             others = λ m ne. tally-finishes m old op.reading pins disks served new is ∙ others-ended op.reading.client m old.entries served ne;
           };

@@ -7,6 +7,7 @@ use Rattle.pfc_log.specs.Tallies.{Tally, tally}
 use Rattle.pfc_world.specs.Files.{Files, file_at}
 use Rattle.pfc_core.specs.Finishes.{Finishes}
 use Rattle.pfc_core.specs.Marks.{Mark, listed, sees}
+use Rattle.pfc_core.specs.Access.{with_read}
 use Rattle.pfc_core.specs.View.{CoreView}
 use Rattle.pfc_read.specs.declared.action.Answer.{Answer}
 use Rattle.pfc_read.specs.declared.action.Answer.TheVariants as answer
@@ -50,7 +51,7 @@ pub record Knows (v : CoreView) (op : OpView) : Type 0 where
 pub record GivesBack (old : CoreView) (reading : Mark) (pins disks : List Mark) (served : Option Served) (new : CoreView) : Type 0 where
   pub known : 0 < listed reading old.out → Finishes old reading pins disks served new
   pub strange : listed reading old.out ≡ 0 → new ≡ old
-  pub unchanged : new ≡ record old { entries = new.entries; out = new.out }
+  pub unchanged : 0 < listed reading old.out → new ≡ record old { entries = new.entries; out = new.out; access = with_read served old.access }
   pub spends : 0 < listed reading old.out → ((m : Mark) → sees m reading + listed m pins + listed m disks ≤ listed m old.out) → (w : Mark → ℕ) → sum_by w new.out + w reading + sum_by w pins + sum_by w disks ≡ sum_by w old.out
 
 -- the reading ends with its entry, and the pins and the rights to read from disk go back, in some order
@@ -60,7 +61,7 @@ pub record Closes (old : CoreView) (op : OpView) (served : Option Served) (new :
   pub same_pins : (w : Mark → ℕ) → sum_by w pins ≡ sum_by w op.pins
   pub same_disks : (w : Mark → ℕ) → sum_by w disks ≡ sum_by w op.disks
   pub finishes : Finishes old op.reading pins disks served new
-  pub unchanged : new ≡ record old { entries = new.entries; out = new.out }
+  pub unchanged : new ≡ record old { entries = new.entries; out = new.out; access = with_read served old.access }
   pub mine : tally op.reading.client new.entries ≡ with_served (tally op.reading.client old.entries) served
   pub others : (m : ℕ) → (op.reading.client == m) ≡ false → tally m new.entries ≡ tally m old.entries
 

@@ -6,6 +6,7 @@ mod disk;
 
 use crate::{Action, Answer, Done, ReadOp};
 use pfc_base::{BlockSet, Path, Piece, block_count};
+use pfc_cinfo::{Head, Records};
 use pfc_core::{FileCore, Flight, Line, Strayed, Ticket};
 use pfc_log::{Fell, Served, push_log};
 use pfc_memory::{MemoryHost, MemoryLink, RowWorld};
@@ -60,7 +61,12 @@ fn core_with(alloc: Global, line: &mut RowLine, on_disk: Option<u32>) -> Result<
         return Err(Fail::new("too many blocks"));
     }
     let start = set_of(alloc, count as u32, on_disk)?;
-    Ok(FileCore::new(alloc, 5, known, 4096, start)?)
+    let head = Head {
+        created: 0,
+        accesses: 0,
+        records: Records::new(alloc),
+    };
+    Ok(FileCore::new(alloc, 5, known, 4096, start, head)?)
 }
 
 /// A core of that file, of which no block is on disk.

@@ -16,6 +16,8 @@ mod disk_models;
 #[cfg(test)]
 mod outside;
 #[cfg(test)]
+mod record_cases;
+#[cfg(test)]
 mod restart_cases;
 #[cfg(test)]
 mod shared_cases;

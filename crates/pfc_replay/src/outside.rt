@@ -51,7 +51,26 @@ pub fn empty_depot(alloc: Global, breaks: &[u64], fuse: Option<u64>) -> Result<M
     Ok(MemoryDepot::new(alloc, Vec::from_slice(alloc, breaks)?, fuse)?)
 }
 
-/// Runs a schedule over a depot whose volumes are home and sound, which they are afterwards too. The clock always tells 0.
+/// Runs a schedule over a depot whose volumes are home and sound, which they are afterwards too.
+pub fn run_by(
+    alloc: Global,
+    words: &[String],
+    host: &mut MemoryHost<RowWorld>,
+    depot: &mut MemoryDepot,
+    mut clock: ListClock,
+    out: &mut VecSink,
+) -> u8
+    requires home { out_of depot.old.volumes.items ≡ [] }
+    requires sound { (path : List ℕ) → AllSound row_files path (data_home depot.old.volumes.items path) (main_home depot.old.volumes.items path) }
+    ensures home { out_of depot.new.volumes.items ≡ [] }
+    ensures sound { (path : List ℕ) → AllSound row_files path (data_home depot.new.volumes.items path) (main_home depot.new.volumes.items path) }
+{
+    run_replay::<RowWorld, MemoryHost<RowWorld>, MemoryDepot, ListClock, VecSink>(
+        alloc, words, host, depot, &mut clock, out,
+    )
+}
+
+/// Runs a schedule so, while the clock always tells 0.
 pub fn run_over(
     alloc: Global,
     words: &[String],
@@ -64,10 +83,8 @@ pub fn run_over(
     ensures home { out_of depot.new.volumes.items ≡ [] }
     ensures sound { (path : List ℕ) → AllSound row_files path (data_home depot.new.volumes.items path) (main_home depot.new.volumes.items path) }
 {
-    let mut clock = ListClock::new(Vec::new(alloc));
-    run_replay::<RowWorld, MemoryHost<RowWorld>, MemoryDepot, ListClock, VecSink>(
-        alloc, words, host, depot, &mut clock, out,
-    )
+    let clock = ListClock::new(Vec::new(alloc));
+    run_by(alloc, words, host, depot, clock, out)
 }
 
 /// What a crash leaves of a depot whose volumes are home and sound.

@@ -1,5 +1,5 @@
 -- Clients and cores, where one of them goes on.
-use Rattle.std.proofs.Common.{◌≡◌, ◌≢◌, ◌⊎◌, inl, inr, ⊎_elim, ℕ, zero, suc, ◌+◌, ◌<◌, ◌≤◌, List, [], ◌∷◌, ◌++◌, length, get_or, set, sum_by, refl, subst, sym, ap, ◌∙◌, arith, Bool, true, false, ◌==◌, ne_eqb}
+use Rattle.std.proofs.Common.{◌≡◌, ◌≢◌, ◌⊎◌, inl, inr, ⊎_elim, ℕ, zero, suc, ◌+◌, ◌<◌, ◌≤◌, List, [], ◌∷◌, ◌++◌, length, get_or, set, sum_by, refl, subst, sym, ap, ◌∙◌, arith, Bool, true, false, None, ◌==◌, ne_eqb}
 use mathlib.Core.Logic.{dite}
 use native.Mathlib.Decide.{ℕ_discrete}
 use Rattle.std.proofs.lemmas.List.{length-set, get_or-set_same, get_or-set_other, length_push, get_or_default, get_or_push}
@@ -12,6 +12,7 @@ use Rattle.pfc_log.specs.Views.{times}
 use Rattle.pfc_log.proofs.Places.{by_bool}
 use Rattle.pfc_core.specs.Marks.{Mark, same, sees}
 use Rattle.pfc_core.specs.Calls.{foreign}
+use Rattle.pfc_core.specs.Access.{as_found}
 use Rattle.pfc_core.specs.View.{CoreView}
 use Rattle.pfc_core.proofs.Weights.{same_instance, unseen}
 use Rattle.pfc_core.specs.OpenJobs.{AreJobs}
@@ -104,8 +105,8 @@ stays_for c c2 home = record {
   first_is = ap (λ (v : CoreView). v.first) home;
 }
 
--- or no more than the log and what is out
-pub stays_by : (c c2 : CoreView) → c2 ≡ record c { entries = c2.entries; out = c2.out } → StaysFor c c2
+-- or no more than the log, what is out and the accesses
+pub stays_by : (c c2 : CoreView) → c2 ≡ record c { entries = c2.entries; out = c2.out; access = c2.access } → StaysFor c c2
 stays_by c c2 home = record {
   instance_is = ap (λ (v : CoreView). v.instance) home;
   path_is = ap (λ (v : CoreView). v.path) home;
@@ -331,10 +332,10 @@ at_end cs c d x lx far = let long = length_push cs c in let e : x ≡ length cs 
 -- ---- anyone
 
 abbrev pub nobody : ClientView
-nobody = record { book = record { number = 0; asked = []; replies = []; stays = []; shut = false }; line = record { number = 0; calls = 0; faults = 0 }; stage = Rest }
+nobody = record { book = record { number = 0; asked = []; replies = []; stays = []; shut = false }; line = record { number = 0; calls = 0; faults = 0 }; stage = Rest; moment = None }
 
 abbrev pub no_core : CoreView
-no_core = record { instance = 0; path = []; size = 0; block_size = 0; first = Stored []; entries = []; out = []; stored = []; durable = []; claimed = [] }
+no_core = record { instance = 0; path = []; size = 0; block_size = 0; first = Stored []; entries = []; out = []; stored = []; durable = []; claimed = []; access = as_found (record { created = 0; accesses = 0; records = [] }) }
 
 -- what holds of each element below i, and of that at i
 pub more_rows : {X : Type 0} (P : X → Type 0) (xs : List X) (i : ℕ) (x : X) → i < length xs → x ≡ get_or xs i x → P x → ((j : ℕ) (d : X) → j < i → P (get_or xs j d)) →

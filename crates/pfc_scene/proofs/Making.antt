@@ -20,6 +20,7 @@ use Rattle.pfc_log.specs.Uncaching.{is_companion, cause_of}
 use Rattle.pfc_log.specs.Views.{times}
 use Rattle.pfc_core.specs.Marks.{Mark}
 use Rattle.pfc_core.specs.Calls.{foreign}
+use Rattle.pfc_base.specs.Cinfo.{Head}
 use Rattle.pfc_core.specs.New.{IsNew, IsNewUncached}
 use Rattle.pfc_core.specs.View.{CoreView}
 use Rattle.pfc_core.specs.OpenJobs.{AreJobs, astray, job_of, unsettled}
@@ -77,8 +78,8 @@ no_jobs c out = record {
   waits = λ n low. let none = ap (sum_by (unsettled c)) out in omega (arith, none);
 }
 
-pub new_cached : (i : ℕ) (path : List ℕ) (size k : ℕ) (c : CoreView) → IsNew i path size k (replicate (count_of size k) false) c → cause_of path (count_of size k) ≡ None → IsCore k i c
-new_cached i path size k c new cause = let sizes = ap (λ (n : ℕ). count_of n k) new.size_is in
+pub new_cached : (i : ℕ) (path : List ℕ) (size k : ℕ) (head : Head) (c : CoreView) → IsNew i path size k (replicate (count_of size k) false) head c → cause_of path (count_of size k) ≡ None → IsCore k i c
+new_cached i path size k head c new cause = let sizes = ap (λ (n : ℕ). count_of n k) new.size_is in
     let none : cause_of c.path (count_of c.size k) ≡ None = ap (λ (p : List ℕ). cause_of p (count_of c.size k)) new.path_is ∙ ap (cause_of path) sizes ∙ cause in
     let long : length (replicate (count_of size k) false) ≡ count_of c.size k = length-replicate (count_of size k) false ∙ sym sizes in
     record {

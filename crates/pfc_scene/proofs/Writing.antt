@@ -16,6 +16,7 @@ use Rattle.pfc_writer.specs.Writer.{Task, work_weight, gone_on, EndsWork}
 use Rattle.pfc_actor.specs.Backings.{BackingView, KeepsBacking, WroteFor}
 use Rattle.pfc_scene.specs.Queues.{AreQueued, MayGoOn}
 use Rattle.pfc_scene.specs.Scenes.{SceneView, IsScene, Moves, beside, lent_of}
+use Rattle.pfc_actor.proofs.Entering.{still}
 use Rattle.pfc_scene.proofs.Casts.{stays_by, cast_beside, cast_core, no_core}
 use Rattle.pfc_scene.proofs.Backed.{backed_by, backed_on, calm_charges, lent_set, settled_backing, settled_core}
 use Rattle.pfc_scene.proofs.QueuedLoans.{end_queued}
@@ -112,7 +113,7 @@ turn_moves v w i x2 b b2 s li eb keeps = let long = s.backed.long in let lb : i 
 -- a writer ends its job in the core, or nothing has changed
 pub record EndsAt (x : Option Task) (c : CoreView) (x2 : Option Task) (c2 : CoreView) : Type 0 where
   pub tokens : (f : Mark → ℕ) → sum_by f c2.out + work_weight f x ≡ sum_by f c.out + work_weight f x2
-  pub home : c2 ≡ record c { entries = c2.entries; out = c2.out }
+  pub home : c2 ≡ record c { entries = c2.entries; out = c2.out; access = c2.access }
   pub calm : GrowsCalmly c.entries c2.entries
   pub tallies : (n : ℕ) → tally n c2.entries ≡ tally n c.entries
   pub ends : (EndsWork c x c2 × (x2 ≡ None)) ⊎ ((x2 ≡ x) × (c2 ≡ c))
@@ -121,7 +122,7 @@ did_end : (x x2 : Option Task) (c c2 : CoreView) → EndsWork c x c2 → x2 ≡ 
 did_end None x2 c c2 ends none = absurd ends
 did_end (Some task) x2 c c2 ends none = record {
   tokens = λ f. let loses = ends.loses f in let rests = ap (work_weight f) none in omega (arith, loses, rests);
-  home = ends.home;
+  home = still c c2 c.access ends.home;
   calm = ends.calm;
   tallies = ends.tallies;
   ends = inl (ends, none);

@@ -13,6 +13,7 @@ ghost use Rattle.pfc_scene.specs.Scenes.{IsAlone, IsCore, IsUnused, Makes, Renew
 
 use pfc_actor::{Backing, Wanted};
 use pfc_base::{BlockSet, Memory, Path, block_count};
+use pfc_cinfo::{Head, Records};
 use pfc_core::FileCore;
 use pfc_log::{Uncached, uncached_cause};
 use pfc_world::{Depot, Known, World};
@@ -56,7 +57,7 @@ pub(crate) fn core_at<W: World>(cores: &[FileCore<W>], core: u64, path: &Path) -
     Some(i)
 }
 
-/// A core of a file of which no block is on disk.
+/// A core of a file of which no block is on disk, and no access on record.
 fn empty_core<W: World>(
     alloc: Global,
     i: u64,
@@ -65,11 +66,16 @@ fn empty_core<W: World>(
 ) -> Result<FileCore<W>, Memory>
     requires block_size { IsBlockSize block_size }
     requires few { count_of known.size block_size ≤ 16777216 }
-    ensures { IfOk result (λ core. IsNew i known.path known.size block_size (replicate (count_of known.size block_size) false) core) }
+    ensures { IfOk result (λ core. IsNew i known.path known.size block_size (replicate (count_of known.size block_size) false) (record { created = 0; accesses = 0; records = [] }) core) }
 {
     let count = block_count(known.size(), block_size) as u32;
     let start = BlockSet::new(alloc, count)?;
-    FileCore::new(alloc, i, known, block_size, start)
+    let head = Head {
+        created: 0,
+        accesses: 0,
+        records: Records::new(alloc),
+    };
+    FileCore::new(alloc, i, known, block_size, start, head)
 }
 
 /// A core of a file, which is cached unless its path or its size says otherwise.
@@ -180,11 +186,13 @@ pub(crate) fn with_store<W: World, P: Depot<W>>(
     ensures { IfOk result (λ new. Restarts core.now.block_size core.now new) }
 {
     let start = backing.start(alloc)?;
+    let head = backing.head(alloc)?;
     FileCore::new(
         alloc,
         core.instance(),
         core.known().copy(),
         core.block_size(),
         start,
+        head,
     )
 }

@@ -75,7 +75,7 @@ impl<W: World, O: Origin<W>, P: Depot<W>> Scene<W, O, P> {
     }
 
     /// The client at this place gives back the store that is lent to it.
-    fn give_back(&mut self, alloc: Global, j: usize)
+    fn give_back<K: Clock>(&mut self, alloc: Global, clock: &mut K, j: usize)
         requires told { IsTrue W.told → IsTrue P.Data.told }
         requires j { j < length self.old.clients }
         ensures { Moves self.old self.new }
@@ -84,17 +84,17 @@ impl<W: World, O: Origin<W>, P: Depot<W>> Scene<W, O, P> {
             if !self.clients[j].is_lent() {
                 return;
             }
-            self.move_within(alloc, j);
+            self.move_within(alloc, clock, j);
         }
     }
 
     /// All clients do so, one after the other.
-    fn give_all_back(&mut self, alloc: Global)
+    fn give_all_back<K: Clock>(&mut self, alloc: Global, clock: &mut K)
         requires { IsTrue W.told → IsTrue P.Data.told }
         ensures { Moves self.old self.new }
     {
         for j in 0..self.clients.len() {
-            self.give_back(alloc, j);
+            self.give_back(alloc, clock, j);
         }
     }
 
@@ -148,7 +148,7 @@ impl<W: World, O: Origin<W>, P: Depot<W>> Scene<W, O, P> {
     }
 
     /// The client at this place closes the descriptors that are still open, in order of number.
-    fn shut(&mut self, j: usize)
+    fn shut<K: Clock>(&mut self, alloc: Global, clock: &mut K, j: usize)
         requires { j < length self.old.clients }
         ensures { Moves self.old self.new }
     {
@@ -156,16 +156,16 @@ impl<W: World, O: Origin<W>, P: Depot<W>> Scene<W, O, P> {
             let Some(i) = self.clients[j].open_at() else {
                 return;
             };
-            self.shut_at(j, i as usize);
+            self.shut_at(alloc, clock, j, i as usize);
         }
     }
 
     /// All clients do so, one after the other.
-    fn shut_all(&mut self)
+    fn shut_all<K: Clock>(&mut self, alloc: Global, clock: &mut K)
         ensures { Moves self.old self.new }
     {
         for j in 0..self.clients.len() {
-            self.shut(j);
+            self.shut(alloc, clock, j);
         }
     }
 
@@ -196,16 +196,16 @@ impl<W: World, O: Origin<W>, P: Depot<W>> Scene<W, O, P> {
     }
 
     /// What is lent is given back, in two rounds, since one may have waited for another, and no writer is at a job after them.
-    fn give_all(&mut self, alloc: Global)
+    fn give_all<K: Clock>(&mut self, alloc: Global, clock: &mut K)
         requires { IsTrue W.told → IsTrue P.Data.told }
         ensures { Moves self.old self.new }
     {
         self.finish_jobs();
         self.finish_sync(alloc);
-        self.give_all_back(alloc);
+        self.give_all_back(alloc, clock);
         self.finish_jobs();
         self.finish_sync(alloc);
-        self.give_all_back(alloc);
+        self.give_all_back(alloc, clock);
     }
 
     /// What can be read of each file is claimed, one file after the other.
@@ -230,10 +230,10 @@ impl<W: World, O: Origin<W>, P: Depot<W>> Scene<W, O, P> {
         ensures unlisted { P.unlisted depot.new ≡ P.unlisted depot.old }
     {
         self.settle_all(alloc, depot, clock);
-        self.give_all(alloc);
+        self.give_all(alloc, clock);
         self.complete_all(alloc, depot, clock);
         self.write_out();
-        self.shut_all();
+        self.shut_all(alloc, clock);
         self.sync_all(alloc);
     }
 }

@@ -49,8 +49,10 @@ enum Entrance {
 enum Prepared {
     /// There is nothing to be done.
     Ready,
-    /// One thing was done.
+    /// The volume was taken.
     Went,
+    /// The store was opened, or failed to be, at this moment in seconds.
+    Opened(u64),
     /// Memory was refused.
     Failed,
 }
@@ -61,6 +63,16 @@ fn went_or_failed(done: Result<(), Memory>) -> Prepared
 {
     match done {
         Ok(()) => Prepared::Went,
+        Err(_) => Prepared::Failed,
+    }
+}
+
+/// What became of a store that was opened at this moment.
+fn opened_or_failed(done: Result<(), Memory>, moment: u64) -> Prepared
+    ensures { result ≡ Ready → ⊥ }
+{
+    match done {
+        Ok(()) => Prepared::Opened(moment),
         Err(_) => Prepared::Failed,
     }
 }
@@ -172,14 +184,23 @@ impl<W: World, O: Origin<W>, P: Depot<W>> Scene<W, O, P> {
             return;
         };
         if self.clients[j].made().is_none() {
-            self.step_at(alloc, j, i);
+            self.step_at(alloc, clock, j, i);
             return;
         }
         match self.prepare(alloc, depot, clock, i) {
-            Prepared::Ready => self.step_at(alloc, j, i),
+            Prepared::Ready => self.step_at(alloc, clock, j, i),
             Prepared::Went => (),
+            Prepared::Opened(moment) => self.note(j, moment),
             Prepared::Failed => self.give_up(j),
         }
+    }
+
+    /// The open of the client at this place opened the store at this moment, in seconds.
+    fn note(&mut self, j: usize, moment: u64)
+        requires { j < length self.old.clients }
+        ensures { Moves self.old self.new }
+    {
+        self.clients[j].note(moment);
     }
 
     /// Takes the volume of the core at this place, or opens its store, where that is to be done.
@@ -204,7 +225,10 @@ impl<W: World, O: Origin<W>, P: Depot<W>> Scene<W, O, P> {
         }
         match self.backings[i].standing() {
             Standing::Bare => went_or_failed(self.take_volume(alloc, depot, i)),
-            Standing::Taken => went_or_failed(self.open_store(alloc, depot, clock, i)),
+            Standing::Taken => {
+                let now = clock.now();
+                opened_or_failed(self.open_store(alloc, depot, now, i), now)
+            }
             _ => Prepared::Ready,
         }
     }
@@ -254,13 +278,13 @@ impl<W: World, O: Origin<W>, P: Depot<W>> Scene<W, O, P> {
         Ok(())
     }
 
-    /// Opens the store of the volume beside the core at this place, which nobody uses yet. Where that fails the volume goes home,
-    /// and the file isn't cached.
-    fn open_store<K: Clock>(
+    /// Opens the store of the volume beside the core at this place, which nobody uses yet, at a moment in seconds. Where that fails
+    /// the volume goes home, and the file isn't cached.
+    fn open_store(
         &mut self,
         alloc: Global,
         depot: &mut P,
-        clock: &mut K,
+        created: u64,
         i: usize,
     ) -> Result<(), Memory>
         requires sound { IsSoundAtHome W.told P.Data.told W.files (P.home_data depot.old) (P.home_main depot.old) }
@@ -273,7 +297,7 @@ impl<W: World, O: Origin<W>, P: Depot<W>> Scene<W, O, P> {
         ensures plays { Plays self.old (depot_of P.out P.lent P.faults depot.old) self.new (depot_of P.out P.lent P.faults depot.new) }
         ensures unlisted { P.unlisted depot.new ≡ P.unlisted depot.old }
     {
-        match self.open_backing(alloc, clock.now(), i) {
+        match self.open_backing(alloc, created, i) {
             Ok(()) => self.start_core(alloc, depot, i),
             Err(Refusal::Fault) => self.lose_store(alloc, depot, i),
             Err(Refusal::Memory) => {

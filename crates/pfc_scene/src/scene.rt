@@ -11,7 +11,7 @@ use pfc_actor::{Backing, Client};
 use pfc_base::Memory;
 use pfc_core::FileCore;
 use pfc_sync::SyncWork;
-use pfc_world::{Depot, Origin, World};
+use pfc_world::{Clock, Depot, Origin, World};
 use pfc_writer::{WriteQueue, Writer};
 use std::alloc::Global;
 use std::marker::Model;
@@ -97,13 +97,13 @@ impl<W: World, O: Origin<W>, P: Depot<W>> Scene<W, O, P> {
     }
 
     /// The client at this place steps on the core at that.
-    pub(crate) fn step_at(&mut self, alloc: Global, j: usize, i: usize)
+    pub(crate) fn step_at<K: Clock>(&mut self, alloc: Global, clock: &mut K, j: usize, i: usize)
         requires j { j < length self.old.clients }
         requires i { i < length self.old.cores }
         requires here { (d : ClientView) (e : CoreView) → Here (slice_index_or self.old.clients j d).book (slice_index_or self.old.clients j d).stage (slice_index_or self.old.cores i e) }
         ensures { Moves self.old self.new }
     {
-        self.clients[j].step_at(alloc, &mut self.cores[i]);
+        self.clients[j].step_at(alloc, clock, &mut self.cores[i]);
         self.cores[i].own();
     }
 
@@ -132,12 +132,12 @@ impl<W: World, O: Origin<W>, P: Depot<W>> Scene<W, O, P> {
     }
 
     /// The client at this place closes its lowest open descriptor, if its file is of the core at that.
-    pub(crate) fn shut_at(&mut self, j: usize, i: usize)
+    pub(crate) fn shut_at<K: Clock>(&mut self, alloc: Global, clock: &mut K, j: usize, i: usize)
         requires j { j < length self.old.clients }
         requires i { i < length self.old.cores }
         ensures { Moves self.old self.new }
     {
-        self.clients[j].shut_at(&mut self.cores[i]);
+        self.clients[j].shut_at(alloc, clock, &mut self.cores[i]);
         self.cores[i].own();
     }
 

@@ -10,7 +10,7 @@ use std::alloc::Global;
 
 impl<W: World, O: Origin<W>, P: Depot<W>> Scene<W, O, P> {
     /// The client at this place makes its next move, unless that is in the opening of a file.
-    pub(crate) fn move_within(&mut self, alloc: Global, j: usize)
+    pub(crate) fn move_within<K: Clock>(&mut self, alloc: Global, clock: &mut K, j: usize)
         requires told { IsTrue W.told → IsTrue P.Data.told }
         requires j { j < length self.old.clients }
         ensures { Moves self.old self.new }
@@ -20,7 +20,7 @@ impl<W: World, O: Origin<W>, P: Depot<W>> Scene<W, O, P> {
             Place::Wants => self.enter(alloc, j),
             Place::Enters => (),
             Place::Puts => self.put(j),
-            Place::Core(i) => self.step_at(alloc, j, i as usize),
+            Place::Core(i) => self.step_at(alloc, clock, j, i as usize),
             Place::Lends(i) => self.lend_at(j, i as usize),
             Place::Reads(i) => self.read_at(j, i as usize),
             Place::Returns(i) => self.return_at(j, i as usize),
@@ -41,7 +41,7 @@ impl<W: World, O: Origin<W>, P: Depot<W>> Scene<W, O, P> {
     {
         match self.clients[j].place() {
             Place::Enters => self.open(alloc, depot, clock, j),
-            _ => self.move_within(alloc, j),
+            _ => self.move_within(alloc, clock, j),
         }
     }
 

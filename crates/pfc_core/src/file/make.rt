@@ -4,28 +4,32 @@ ghost use Rattle.pfc_base.specs.Block.{count_of};
 ghost use Rattle.pfc_core.specs.New.{IsNew, IsNewUncached};
 
 use super::FileCore;
+use crate::access::Access;
 use crate::held::Tokens;
 use crate::sets::Sets;
 use crate::shelf::Shelf;
 use pfc_base::{BlockSet, Memory};
+use pfc_cinfo::{Head, Records};
 use pfc_log::{FileLog, Start, Uncached};
 use pfc_world::{Known, World};
 use std::alloc::Global;
 
 impl<W: World> FileCore<W> {
-    /// A core that nobody uses yet, with an empty log. The blocks of this set are on disk for good, and claimed.
+    /// A core that nobody uses yet, with an empty log. The blocks of this set are on disk for good, and claimed by a cinfo with
+    /// this head.
     pub fn new(
         alloc: Global,
         instance: u64,
         known: Known<W>,
         block_size: u64,
         start: BlockSet,
+        head: Head,
     ) -> Result<FileCore<W>, Memory>
         requires some { 0 < block_size }
         requires most { block_size ≤ 16777216 }
         requires blocks { count_of known.size block_size ≤ 16777216 }
         requires bound { length start ≡ count_of known.size block_size }
-        ensures { IfOk result (λ core. IsNew instance known.path known.size block_size start core) }
+        ensures { IfOk result (λ core. IsNew instance known.path known.size block_size start head core) }
     {
         let sets = Sets::new(alloc, &start)?;
         let mut log = FileLog::new(alloc, Start::Stored(start));
@@ -44,6 +48,7 @@ impl<W: World> FileCore<W> {
             begun: 0,
             claim: None,
             visited: 0,
+            access: Access::new(head),
         })
     }
 
@@ -76,6 +81,11 @@ impl<W: World> FileCore<W> {
             begun: 0,
             claim: None,
             visited: 0,
+            access: Access::new(Head {
+                created: 0,
+                accesses: 0,
+                records: Records::new(alloc),
+            }),
         })
     }
 }

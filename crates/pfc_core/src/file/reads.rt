@@ -4,6 +4,7 @@ ghost use Rattle.pfc_base.specs.Block.{IsPartOf};
 ghost use Rattle.pfc_log.specs.declared.entry.Entry.{Entry};
 ghost use Rattle.pfc_log.specs.declared.entry.Entry.TheVariants.{Left};
 ghost use Rattle.pfc_world.specs.Files.{Holds};
+ghost use Rattle.pfc_core.specs.Access.{with_read};
 ghost use Rattle.pfc_core.specs.Calls.{Unpins, Strays};
 ghost use Rattle.pfc_core.specs.Finishes.{Ends, Finishes, Releases, ReleasesAll, ReleasesDisks, served_entries};
 ghost use Rattle.pfc_core.specs.Looks.{Looks, IfReady};
@@ -63,7 +64,7 @@ impl<W: World> FileCore<W> {
         served: Option<Served>,
     ) -> Result<(), Strayed<Reading<W>>>
         ensures ok { OnOk result (Finishes self.old reading pins.old.items disks.old.items served self.new) }
-        ensures rest { OnOk result (self.new ≡ record self.old { entries = self.new.entries; out = self.new.out }) }
+        ensures rest { OnOk result (self.new ≡ record self.old { entries = self.new.entries; out = self.new.out; access = with_read served self.old.access }) }
         // Where the core's list has them all, they are all taken out of it.
         ensures known { OnOk result (((m : Mark) → sees m reading + listed m pins.old.items + listed m disks.old.items ≤ listed m self.old.out) → (w : Mark → ℕ) → sum_by w self.new.out + w reading + sum_by w pins.old.items + sum_by w disks.old.items ≡ sum_by w self.old.out) }
         // Beside the entry of the read only blocks leave.
@@ -106,6 +107,7 @@ impl<W: World> FileCore<W> {
         let Some(served) = served else {
             return Ok(());
         };
+        self.access.read(&served);
         self.log.push(Entry::Served {
             client: held.client,
             served,

@@ -11,6 +11,7 @@ use crate::loan::{Did, Lent, Loan, Purpose, Turn, TurnRefusal};
 use crate::shelf::Shelf;
 use crate::token::tag_of;
 use pfc_base::Memory;
+use pfc_cinfo::Head;
 use pfc_log::FileLog;
 use pfc_store::FileStore;
 use pfc_world::{DataDev, InfoDev, World};
@@ -34,23 +35,19 @@ fn make_turn_room<W: World>(
     log.reserve(owed + 1)
 }
 
-/// What a turn's loan of this store is for.
-fn purpose_of<W: World, D: DataDev<W>, I: InfoDev<W>>(
-    alloc: Global,
-    turn: Turn,
-    store: &FileStore<W, D, I>,
-) -> Result<Purpose, Memory>
-    ensures { IfOk result (λ purpose. aim_of purpose ≡ aim_at turn store.now) }
+/// What a turn's loan is for, where the cinfo gets this head.
+fn purpose_of(alloc: Global, turn: Turn, head: &Head) -> Result<Purpose, Memory>
+    ensures { IfOk result (λ purpose. aim_of purpose ≡ aim_at turn head.now) }
 {
     match turn {
         Turn::Data => Ok(Purpose::Sync),
-        Turn::Info => Ok(Purpose::Put(store.head().copy(alloc)?)),
+        Turn::Info => Ok(Purpose::Put(head.copy(alloc)?)),
     }
 }
 
 impl<W: World> FileCore<W> {
     /// Lends the store that is at home for a turn of a sync: for one sync of the data, or for one put of a cinfo with a copy of
-    /// the store's head. The room for the turn's entry is taken here. One loan is out at a time.
+    /// the head that stands here. The room for the turn's entry is taken here. One loan is out at a time.
     pub fn lend_turn<D: DataDev<W>, I: InfoDev<W>>(
         &mut self,
         alloc: Global,
@@ -98,10 +95,10 @@ impl<W: World> FileCore<W> {
         requires cached { IsCached self.old.first }
         requires none { loans_out self.old.out ≡ 0 }
         requires file { IsOfFile self.old store }
-        ensures ok { IfOk result (λ loan. LendsFor (aim_at turn store) true self.old (Some store) loan self.new) }
+        ensures ok { IfOk result (λ loan. LendsFor (aim_at turn self.old.access.head) true self.old (Some store) loan self.new) }
         ensures err { IfErr result (λ back. (back ≡ store) × (self.new ≡ self.old)) }
     {
-        let Ok(purpose) = purpose_of(alloc, turn, &store) else {
+        let Ok(purpose) = purpose_of(alloc, turn, self.access.head()) else {
             return Err(store);
         };
         let Ok(others) = sum_of(self.readings.len(), self.pins.len(), self.disks.len()) else {

@@ -6,7 +6,7 @@ use Rattle.pfc_actor.specs.Books.{BookView}
 use Rattle.pfc_actor.proofs.Cores.{shut_step}
 use Rattle.pfc_actor.proofs.Holding.{no_stranger}
 use Rattle.pfc_log.specs.declared.entry.Entry.TheVariants as e
-use Rattle.pfc_actor.proofs.Calm.{calm_entered}
+use Rattle.pfc_actor.proofs.Calm.{calm_visited}
 use Rattle.pfc_actor.proofs.opening.shut.Goals as goal
 
 pub unreachable-requires : goal.unreachable-requires
@@ -19,8 +19,8 @@ unreachable-requires g c =
 
 pub returns-clause-step : goal.returns-clause-step
 returns-clause-step g c =
-    shut_step _ _ _ _ _ c.in-Some-shut.stay c.in-Some-shut.ensures.mine.client_is c.in-Ok.ensures.ok c.in-Some-shut.ensures.weighs
+    shut_step _ _ _ _ _ _ c.in-Some-shut.stay c.in-Some-shut.ensures.mine.client_is c.in-Ok.ensures.ok c.in-Some-shut.ensures.weighs
     (ap (λ (v : BookView). v.number) c.shut.ensures.rest) (ap (λ (v : BookView). v.asked) c.shut.ensures.rest) (ap (λ (v : BookView). v.replies) c.shut.ensures.rest)
 
 pub returns-clause-calm : goal.returns-clause-calm
-returns-clause-calm g c = calm_entered c.args.core.now _ (e.Closed _) _ c.in-Ok.ensures.ok.enters refl
+returns-clause-calm g c = calm_visited c.args.core.now _ (e.Closed _) _ _ c.in-Ok.ensures.ok.enters refl

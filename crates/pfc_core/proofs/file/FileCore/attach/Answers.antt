@@ -1,4 +1,4 @@
-use Rattle.std.proofs.Common.{refl, ◌∙◌, ap, subst, arith, List}
+use Rattle.std.proofs.Common.{refl, ◌∙◌, ap, subst, arith, List, length}
 use Rattle.pfc_log.specs.declared.entry.Entry.TheVariants.{Opened}
 use Rattle.pfc_core.specs.declared.held.Held.{Held}
 use Rattle.pfc_core.specs.Marks.{StayKind}
@@ -13,6 +13,7 @@ use Rattle.pfc_core.proofs.Found.{found_more}
 use Rattle.pfc_core.proofs.Said.{said_more}
 use Rattle.pfc_core.proofs.Rooms.{alarm_most}
 use Rattle.pfc_core.proofs.Turned.{turns_visit, turn_most}
+use Rattle.pfc_core.proofs.Stays.{comes_in}
 use Rattle.pfc_core.proofs.file.FileCore.attach.Goals as goal
 
 pub invariant_of-self-2 : goal.invariant_of-self-2
@@ -35,5 +36,5 @@ returns-clause-ok g c = let s = c.self.inside in
     rw (← c.self.view_is) (record {
       stays = record { kind_is = refl; instance_is = ap (λ (h : Home). h.instance) at; path_is = ap (λ (h : Home). h.path) at; size_is = ap (λ (h : Home). h.size) at; block_size_is = ap (λ (h : Home). h.block_size) at; client_is = ap (λ (p : Held). p.client) c.tag_of.ensures.held ∙ c.add-held.ensures.client };
       gains = rw (mark_at StayKind _ _ _ _ at c.tag_of.ensures.held) (gains_stay (home_of s.instance s.shelf) s.readings.list s.pins.list s.disks.list s.loan s.shelf.slots c.add-held.result s.stays.list c.add-held.new.self.list put);
-      enters = rw (c.push.ensures, c.make_room.ensures.first, c.make_room.ensures.entries) refl;
+      enters = rw (c.push.ensures, c.make_room.ensures.first, c.make_room.ensures.entries, c.in_ok-come_in.ensures.ok, comes_in (home_of s.instance s.shelf) s.stays.list s.readings.list s.pins.list s.disks.list s.loan s.shelf.slots c.args.now c.len-4.result s.access (c.len-4.ensures.len ∙ ap length c.make_room.ensures.list)) refl;
     })

@@ -12,6 +12,7 @@ use Rattle.pfc_core.proofs.Outs.{loses_stay, unlisted_stay, unlisted_elsewhere, 
 use Rattle.pfc_core.proofs.Found.{found_more}
 use Rattle.pfc_core.proofs.Said.{said_more}
 use Rattle.pfc_core.proofs.Turned.{turns_visit}
+use Rattle.pfc_core.proofs.Stays.{goes_out}
 use Rattle.pfc_core.proofs.file.FileCore.detach.Goals as goal
 
 pub returns-then-not-is_of-clause-strayed : goal.returns-then-not-is_of-clause-strayed
@@ -48,5 +49,5 @@ pub returns-clause-ok : goal.returns-clause-ok
 returns-clause-ok g c = let s = c.self.inside in let at = c.if-not-is_of.ensures in
     rw (← c.self.view_is, ← c.stay.view_is) (record {
       loses = rw (mark_at StayKind (home_in c.stay.inside.tag) _ c.stay.inside.tag.held _ at refl) (loses_stay (home_of s.instance s.shelf) s.readings.list s.pins.list s.disks.list s.loan s.shelf.slots c.stay.inside.tag.held s.stays.list c.take.new.self.list (c.if-not-take.ensures.yes refl));
-      enters = rw c.push.ensures refl;
+      enters = rw (c.push.ensures, c.go_out.ensures, goes_out (home_of s.instance s.shelf) c.take.new.self.list s.readings.list s.pins.list s.disks.list s.loan s.shelf.slots c.args.now c.len.result s.access c.len.ensures.len) refl;
     })

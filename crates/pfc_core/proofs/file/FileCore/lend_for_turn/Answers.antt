@@ -4,7 +4,7 @@ use Rattle.pfc_core.specs.declared.held.Held.{Held}
 use Rattle.pfc_core.specs.declared.loan.Lent.{Lent}
 use Rattle.pfc_core.specs.Homes.{home_of}
 use Rattle.pfc_core.specs.Kept.{view_of}
-use Rattle.pfc_core.specs.Lending.{loans_out}
+use Rattle.pfc_core.specs.Lending.{aim_at, loans_out}
 use Rattle.pfc_core.specs.Marks.{LoanKind}
 use Rattle.pfc_core.specs.Out.{loan_of, out_of}
 use Rattle.pfc_core.specs.Tags.{home_in}
@@ -40,7 +40,7 @@ returns-clause-ok g c = let s = c.self.inside in let h = home_of s.instance s.sh
       cached = c.requires.cached;
       none = c.requires.none;
       store_is = refl;
-      aim_is = c.in-Ok.ensures;
+      aim_is = c.in-Ok.ensures ∙ ap (aim_at c.args.turn) (c.head.ensures ∙ ap (λ (v : CoreView). v.access.head) c.self.view_is);
       idle = refl;
       mine = rw (← c.self.view_is) (mark_at LoanKind (home_in c.tag_of-tag.result) h p (loan_of (record { number = p.number; at = length s.log.entries; turn = true })) at mine);
       gains = rw (← c.self.view_is) (gains_at LoanKind (home_in c.tag_of-tag.result) h p (loan_of l) (view_of s).out (out_of h s.stays.list s.readings.list s.pins.list s.disks.list (Some l) s.shelf.slots) at kept (lend_gains h s.stays.list s.readings.list s.pins.list s.disks.list s.shelf.slots s.loan l none));

@@ -6,3 +6,6 @@ returns-in-Ready-clause-plays g c = plays_on _ _ _ _ _ _ c.prepare.ensures.plays
 
 pub returns-in-Failed-clause-plays : goal.returns-in-Failed-clause-plays
 returns-in-Failed-clause-plays g c = plays_on _ _ _ _ _ _ c.prepare.ensures.plays (moves_plays _ _ _ c.give_up-in-Failed.ensures)
+
+pub returns-in-Opened-clause-plays : goal.returns-in-Opened-clause-plays
+returns-in-Opened-clause-plays g c = plays_on _ _ _ _ _ _ c.prepare.ensures.plays (moves_plays _ _ _ c.note.ensures)
