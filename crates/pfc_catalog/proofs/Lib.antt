@@ -1,0 +1,6 @@
+pub mod Firsts
+pub mod Orders
+pub mod Places
+pub mod Tables
+pub mod Totals
+pub mod Turning

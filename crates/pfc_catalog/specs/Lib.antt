@@ -1,0 +1,10 @@
+pub mod Best
+pub mod Catalog
+pub mod Entry
+pub mod Files
+pub mod Kept
+pub mod Moves
+pub mod Order
+pub mod Purge
+pub mod Shells
+pub mod View
