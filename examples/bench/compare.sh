@@ -1,7 +1,7 @@
 #!/bin/sh
 # Prints what the hot paths cost, and beside it what the same jobs cost in C (gcc -O2), with the ratio of C's time to ours:
 # above 1 ours is faster. The buffer has 16 MiB, the sets have 16777216 numbers, the stored file has 4 blocks of 1 MiB and lies in
-# the folder for temporary files. Figures of one run; noise is about a fifth.
+# the folder for temporary files. A catalog of 1000000 files takes 700 MB. Figures of one run; noise is about a fifth.
 set -eu
 top=$(cd "$(dirname "$0")/../.." && pwd)
 place=$(mktemp -d)

@@ -3,6 +3,7 @@
 #![tactic(auto)]
 
 mod budget;
+mod catalog;
 mod checksum;
 mod queue;
 mod sample;
@@ -52,10 +53,25 @@ fn show_store(rt: &HostRuntime, plan: Plan) -> Result<()> {
     Ok(())
 }
 
+// The lines of a catalog of so many files.
+fn show_catalog(rt: &HostRuntime, plan: Plan, count: u64) -> Result<()> {
+    let samples = catalog::of_files(rt, plan, count)?;
+    let learn = format!(in rt.alloc(); "learn one of {count} files")?;
+    show(rt, plan, learn.as_str(), &samples.learn)?;
+    let usages = format!(in rt.alloc(); "1000 usages of {count} files")?;
+    show(rt, plan, usages.as_str(), &samples.usages)?;
+    let victim = format!(in rt.alloc(); "a victim of {count} files")?;
+    show(rt, plan, victim.as_str(), &samples.victim)?;
+    Ok(())
+}
+
 fn main(rt: HostRuntime) -> Result<()> {
     let plan = plan(&rt)?;
     show_kernels(&rt, plan)?;
     show_store(&rt, plan)?;
+    for count in catalog::sizes(plan) {
+        show_catalog(&rt, plan, count)?;
+    }
     show(
         &rt,
         plan,

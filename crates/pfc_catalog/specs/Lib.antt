@@ -6,5 +6,6 @@ pub mod Kept
 pub mod Moves
 pub mod Order
 pub mod Purge
+pub mod Scan
 pub mod Shells
 pub mod View

@@ -6,6 +6,7 @@ mod entry;
 mod files;
 mod laws;
 mod order;
+mod scanning;
 mod shells;
 #[cfg(test)]
 mod tests;
@@ -13,4 +14,5 @@ mod tests;
 pub use catalog::{Catalog, Entered, Victim, plan};
 pub use entry::{Entry, State};
 pub use laws::a_put_changes_one_file;
+pub use scanning::{ScanRefusal, scan};
 pub use shells::SHELLS;
