@@ -29,24 +29,24 @@ at_each path f g here rest other = elim (this_or_other path other) [
   | inr apart ↦ rest other apart
 ]
 
-module _ (told told_data : Bool) (files : Files) (path : List ℕ) (D D2 : List ℕ → List ℕ → Type 0) (M M2 : List ℕ → Option (List ℕ) → Type 0) where
+module _ (told told_data : Bool) (files : Files) (path : List ℕ) (D NewData : List ℕ → List ℕ → Type 0) (M NewMain : List ℕ → Option (List ℕ) → Type 0) where
   -- each other path is as it was, and this one is sound
-  pub sound_at : IsSoundAtHome told told_data files D M → (IsTrue told → IsTrue told_data → AllSound files path (D2 path) (M2 path)) → (IsTrue told_data → SameElsewhere path D M D2 M2) → IsSoundAtHome told told_data files D2 M2
+  pub sound_at : IsSoundAtHome told told_data files D M → (IsTrue told → IsTrue told_data → AllSound files path (NewData path) (NewMain path)) → (IsTrue told_data → SameElsewhere path D M NewData NewMain) → IsSoundAtHome told told_data files NewData NewMain
   sound_at sound here rest t d other = elim (this_or_other path other) [
-    | inl same ↦ subst (λ (q : List ℕ). AllSound files q (D2 q) (M2 q)) (sym same) (here t d)
+    | inl same ↦ subst (λ (q : List ℕ). AllSound files q (NewData q) (NewMain q)) (sym same) (here t d)
     | inr apart ↦ λ file is image main is_data is_main. sound t d other file is image main (((rest d other apart).0 image).0 is_data) (((rest d other apart).1 main).0 is_main)
   ]
 
   -- nothing is home at this one
-  pub sound_away : IsSoundAtHome told told_data files D M → (IsTrue told_data → Nothing (D2 path) × Nothing (M2 path)) → (IsTrue told_data → SameElsewhere path D M D2 M2) → IsSoundAtHome told told_data files D2 M2
+  pub sound_away : IsSoundAtHome told told_data files D M → (IsTrue told_data → Nothing (NewData path) × Nothing (NewMain path)) → (IsTrue told_data → SameElsewhere path D M NewData NewMain) → IsSoundAtHome told told_data files NewData NewMain
   sound_away sound away rest = sound_at sound (λ t d file is image main is_data is_main. absurd ((away d).0 image is_data)) rest
 
-  pub sound_fewer : IsSoundAtHome told told_data files D M → (IsTrue told_data → FewerAtHome D M D2 M2) → IsSoundAtHome told told_data files D2 M2
+  pub sound_fewer : IsSoundAtHome told told_data files D M → (IsTrue told_data → FewerAtHome D M NewData NewMain) → IsSoundAtHome told told_data files NewData NewMain
   sound_fewer sound fewer t d other file is image main is_data is_main = sound t d other file is image main ((fewer d other).0 image is_data) ((fewer d other).1 main is_main)
 
 -- tests of fewer images
-pub sound_less : (files : Files) (path : List ℕ) (D D2 : List ℕ → Type 0) (M M2 : Option (List ℕ) → Type 0) → AllSound files path D M → Fewer D D2 × Fewer M M2 → AllSound files path D2 M2
-sound_less files path D D2 M M2 sound fewer file is image main is_data is_main = sound file is image main (fewer.0 image is_data) (fewer.1 main is_main)
+pub sound_less : (files : Files) (path : List ℕ) (D NewData : List ℕ → Type 0) (M NewMain : Option (List ℕ) → Type 0) → AllSound files path D M → Fewer D NewData × Fewer M NewMain → AllSound files path NewData NewMain
+sound_less files path D NewData M NewMain sound fewer file is image main is_data is_main = sound file is image main (fewer.0 image is_data) (fewer.1 main is_main)
 
 -- what was sound since a moment is so now
 pub sound_now : (files : Files) (path copy : List ℕ) (disk disk_now : Run Disk) (info info_now : Run Info) → copy ≡ path → SoundSince files path disk disk_now info info_now → AllSound files copy (IsImage disk_now.now) (IsMain info_now.now)

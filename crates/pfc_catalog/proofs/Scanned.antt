@@ -133,22 +133,22 @@ pub none_yet : (tells : Bool) (M : List ℕ → Option (List ℕ) → Type 0) (o
 none_yet tells M out now c is = subst (λ (v : CatalogView). IsScanOf tells M out now now [] v) (sym is)
     (record { keys = refl; next = refl; found = All-nil (λ f. IsFoundAs tells (M f.0) (Contains out f.0) f.1); broken = inl (omega arith) })
 
-pub scan_more : (tells : Bool) (M M2 : List ℕ → Option (List ℕ) → Type 0) (out : List (List ℕ)) (before now now2 : ℕ) (paths : List (List ℕ)) (i : ℕ) (p : List ℕ) (c c2 : CatalogView) (looked : Looked) →
+pub scan_more : (tells : Bool) (M NewMain : List ℕ → Option (List ℕ) → Type 0) (out : List (List ℕ)) (before now now2 : ℕ) (paths : List (List ℕ)) (i : ℕ) (p : List ℕ) (c c2 : CatalogView) (looked : Looked) →
     InByteOrder paths → i < length paths → p ≡ get_or paths i p → IsScanOf tells M out before now (take i paths) c →
-    (IsTrue tells → (other : List ℕ) → other ≢ p → (main : Option (List ℕ)) → M2 other main → M other main) → (IsTrue tells → Sees (M2 p) looked) → (IsTrue (is_away looked) ↔ Contains out p) →
-    LookCause now now2 (Ok looked) → c2 ≡ record { entries = put p (entry_of looked) c.entries; next = c.next } → IsScanOf tells M2 out before now2 (take (i + 1) paths) c2
-scan_more tells M M2 out before now now2 paths i p c c2 looked order within is scan rest sees away cause entered =
+    (IsTrue tells → (other : List ℕ) → other ≢ p → (main : Option (List ℕ)) → NewMain other main → M other main) → (IsTrue tells → Sees (NewMain p) looked) → (IsTrue (is_away looked) ↔ Contains out p) →
+    LookCause now now2 (Ok looked) → c2 ≡ record { entries = put p (entry_of looked) c.entries; next = c.next } → IsScanOf tells NewMain out before now2 (take (i + 1) paths) c2
+scan_more tells M NewMain out before now now2 paths i p c c2 looked order within is scan rest sees away cause entered =
     let none = absent paths i p c.entries order within is scan.keys in
     let e = entry_of looked in
     let pushed = push_is_put c.entries p e none in
-    subst (λ (v : CatalogView). IsScanOf tells M2 out before now2 (take (i + 1) paths) v) (sym (entered ∙ ap (λ (fs : Files). record { entries = fs; next = c.next }) (sym pushed)))
+    subst (λ (v : CatalogView). IsScanOf tells NewMain out before now2 (take (i + 1) paths) v) (sym (entered ∙ ap (λ (fs : Files). record { entries = fs; next = c.next }) (sym pushed)))
     (record {
       keys = map-append (λ f. f.0) c.entries ((p, e) ∷ []) ∙ ap (λ (l : List (List ℕ)). l ++ p ∷ []) scan.keys ∙ ap (λ (q : List ℕ). take i paths ++ q ∷ []) is ∙ sym (take_more paths i p within);
       next = scan.next;
-      found = All-push (λ f. IsFoundAs tells (M2 f.0) (Contains out f.0) f.1) c.entries (p, e)
-          (others (λ f. IsFoundAs tells (M f.0) (Contains out f.0) f.1) (λ f. IsFoundAs tells (M2 f.0) (Contains out f.0) f.1) p c.entries none
+      found = All-push (λ f. IsFoundAs tells (NewMain f.0) (Contains out f.0) f.1) c.entries (p, e)
+          (others (λ f. IsFoundAs tells (M f.0) (Contains out f.0) f.1) (λ f. IsFoundAs tells (NewMain f.0) (Contains out f.0) f.1) p c.entries none
           (λ f apart was. record { home = was.home; away = was.away; marked = was.marked; told = λ unmarked told main there. was.told unmarked told main (rest told f.0 apart main there) }) scan.found)
-          (seen tells (M2 p) (Contains out p) looked sees away);
+          (seen tells (NewMain p) (Contains out p) looked sees away);
       broken = subst (λ n. RoseBy before n now2) (sym (sum_by_push (λ f. cond (is_broken out f) 1 0) c.entries (p, e))) (counted before (broken_in out c.entries) now now2 out p looked away scan.broken cause);
     })
 

@@ -64,48 +64,48 @@ kept_by run first first_now info info_now cached fewer (inr gone) image is =
 
 -- ---- what is home
 
-module _ (path : List ℕ) (D D1 D2 : List ℕ → List ℕ → Type 0) (M M1 M2 : List ℕ → Option (List ℕ) → Type 0) where
-  pub elsewhere_on : SameElsewhere path D M D1 M1 → SameElsewhere path D1 M1 D2 M2 → SameElsewhere path D M D2 M2
+module _ (path : List ℕ) (D MidData NewData : List ℕ → List ℕ → Type 0) (M MidMain NewMain : List ℕ → Option (List ℕ) → Type 0) where
+  pub elsewhere_on : SameElsewhere path D M MidData MidMain → SameElsewhere path MidData MidMain NewData NewMain → SameElsewhere path D M NewData NewMain
   elsewhere_on first second other apart = (
     (λ image. (λ is. ((first other apart).0 image).0 (((second other apart).0 image).0 is), λ was. ((second other apart).0 image).1 (((first other apart).0 image).1 was))),
     (λ main. (λ is. ((first other apart).1 main).0 (((second other apart).1 main).0 is), λ was. ((second other apart).1 main).1 (((first other apart).1 main).1 was))),
   )
 
-module _ (path : List ℕ) (D D2 : List ℕ → List ℕ → Type 0) (M M2 : List ℕ → Option (List ℕ) → Type 0) where
+module _ (path : List ℕ) (D NewData : List ℕ → List ℕ → Type 0) (M NewMain : List ℕ → Option (List ℕ) → Type 0) where
   -- each other path is as it was
-  pub mains_at : ((main : Option (List ℕ)) → M2 path main → M path main ⊎ (main ≡ None)) → SameElsewhere path D M D2 M2 → KeepsMains M M2
+  pub mains_at : ((main : Option (List ℕ)) → NewMain path main → M path main ⊎ (main ≡ None)) → SameElsewhere path D M NewData NewMain → KeepsMains M NewMain
   mains_at here rest other main = elim (this_or_other path other) [
-    | inl same ↦ subst (λ (q : List ℕ). M2 q main → M q main ⊎ (main ≡ None)) (sym same) (here main)
+    | inl same ↦ subst (λ (q : List ℕ). NewMain q main → M q main ⊎ (main ≡ None)) (sym same) (here main)
     | inr apart ↦ λ is. inl (((rest other apart).1 main).0 is)
   ]
 
-  pub kept_at : (IsCached (M path) → Fewer (D path) (D2 path) × Fewer (M path) (M2 path)) → SameElsewhere path D M D2 M2 → KeepsCached D M D2 M2
+  pub kept_at : (IsCached (M path) → Fewer (D path) (NewData path) × Fewer (M path) (NewMain path)) → SameElsewhere path D M NewData NewMain → KeepsCached D M NewData NewMain
   kept_at here rest other = elim (this_or_other path other) [
-    | inl same ↦ subst (λ (q : List ℕ). IsCached (M q) → Fewer (D q) (D2 q) × Fewer (M q) (M2 q)) (sym same) here
+    | inl same ↦ subst (λ (q : List ℕ). IsCached (M q) → Fewer (D q) (NewData q) × Fewer (M q) (NewMain q)) (sym same) here
     | inr apart ↦ λ cached. ((λ image is. ((rest other apart).0 image).0 is), (λ main is. ((rest other apart).1 main).0 is))
   ]
 
-  pub sound_at : (told told_data : Bool) (files : Files) → IsSoundAtHome told told_data files D M → (IsTrue told → IsTrue told_data → AllSound files path (D2 path) (M2 path)) → (IsTrue told_data → SameElsewhere path D M D2 M2) → IsSoundAtHome told told_data files D2 M2
+  pub sound_at : (told told_data : Bool) (files : Files) → IsSoundAtHome told told_data files D M → (IsTrue told → IsTrue told_data → AllSound files path (NewData path) (NewMain path)) → (IsTrue told_data → SameElsewhere path D M NewData NewMain) → IsSoundAtHome told told_data files NewData NewMain
   sound_at told told_data files sound here rest t d other = elim (this_or_other path other) [
-    | inl same ↦ subst (λ (q : List ℕ). AllSound files q (D2 q) (M2 q)) (sym same) (here t d)
+    | inl same ↦ subst (λ (q : List ℕ). AllSound files q (NewData q) (NewMain q)) (sym same) (here t d)
     | inr apart ↦ λ file is image main is_data is_main. sound t d other file is image main (((rest d other apart).0 image).0 is_data) (((rest d other apart).1 main).0 is_main)
   ]
 
-module _ (D D2 : List ℕ → List ℕ → Type 0) (M M2 : List ℕ → Option (List ℕ) → Type 0) where
-  pub mains_fewer : FewerAtHome D M D2 M2 → KeepsMains M M2
+module _ (D NewData : List ℕ → List ℕ → Type 0) (M NewMain : List ℕ → Option (List ℕ) → Type 0) where
+  pub mains_fewer : FewerAtHome D M NewData NewMain → KeepsMains M NewMain
   mains_fewer fewer path main is = inl ((fewer path).1 main is)
 
-  pub kept_fewer : FewerAtHome D M D2 M2 → KeepsCached D M D2 M2
+  pub kept_fewer : FewerAtHome D M NewData NewMain → KeepsCached D M NewData NewMain
   kept_fewer fewer path cached = fewer path
 
-  pub sound_fewer : (told told_data : Bool) (files : Files) → IsSoundAtHome told told_data files D M → (IsTrue told_data → FewerAtHome D M D2 M2) → IsSoundAtHome told told_data files D2 M2
+  pub sound_fewer : (told told_data : Bool) (files : Files) → IsSoundAtHome told told_data files D M → (IsTrue told_data → FewerAtHome D M NewData NewMain) → IsSoundAtHome told told_data files NewData NewMain
   sound_fewer told told_data files sound fewer t d path file is image main is_data is_main = sound t d path file is image main ((fewer d path).0 image is_data) ((fewer d path).1 main is_main)
 
-module _ (D D1 D2 : List ℕ → List ℕ → Type 0) (M M1 M2 : List ℕ → Option (List ℕ) → Type 0) where
-  pub mains_on : KeepsMains M M1 → KeepsMains M1 M2 → KeepsMains M M2
+module _ (D MidData NewData : List ℕ → List ℕ → Type 0) (M MidMain NewMain : List ℕ → Option (List ℕ) → Type 0) where
+  pub mains_on : KeepsMains M MidMain → KeepsMains MidMain NewMain → KeepsMains M NewMain
   mains_on first second path main is = ⊎_elim (λ was. first path main was) (λ none. inr none) (second path main is)
 
-  pub kept_on : KeepsCached D M D1 M1 → KeepsCached D1 M1 D2 M2 → KeepsCached D M D2 M2
+  pub kept_on : KeepsCached D M MidData MidMain → KeepsCached MidData MidMain NewData NewMain → KeepsCached D M NewData NewMain
   kept_on first second path cached =
       let early = first path cached in
       let late = second path (λ main is. cached main (early.1 main is)) in
