@@ -14,4 +14,5 @@ pub mod Asking
 pub mod Backings
 pub mod BackingHomes
 pub mod BackingLoans
+pub mod Leaving
 mod Turning

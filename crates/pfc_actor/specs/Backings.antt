@@ -2,8 +2,9 @@
 use Rattle.std.specs.Prelude.{◌≡◌, ◌≢◌, ◌≤◌, ◌⊎◌, ℕ, ◌+◌, Bool, List, [], ◌∷◌, ◌++◌, Option, Some, None, IfSome, IsTrue, Contains, length, sum_by}
 use Rattle.pfc_base.specs.Block.{count_of}
 use Rattle.pfc_world.specs.Counts.{Rose, RoseBy, last_count, add_count}
-use Rattle.pfc_world.specs.Depot.{AllSound, Gains, Loses, risen}
+use Rattle.pfc_world.specs.Depot.{AllSound, Fewer, Gains, Loses, risen}
 use Rattle.pfc_world.specs.Files.{Files}
+use Rattle.pfc_world.specs.Info.{Info, IsMain}
 use Rattle.pfc_world.specs.declared.refusal.Refusal.{Refusal}
 use Rattle.pfc_world.specs.declared.refusal.Refusal.TheVariants.{Fault, Memory}
 use Rattle.pfc_log.specs.declared.entry.Entry.TheVariants.{Direct, Wrote}
@@ -20,6 +21,8 @@ use Rattle.pfc_actor.specs.declared.backing.Standing.{Standing}
 use Rattle.pfc_actor.specs.declared.backing.Standing.TheVariants as standing
 use Rattle.pfc_core.specs.View.{CoreView}
 use Rattle.pfc_writer.specs.Writer.{Task, turned}
+use Rattle.pfc_store.specs.Claims.{MainBetween}
+use Rattle.pfc_report.specs.Restart.{ClaimsFound, IsLeft, StartsFound}
 
 -- ---- a volume
 
@@ -38,16 +41,19 @@ pub data Stand : Type 0 where
   Open : (path : List ℕ) (size : ℕ) (block_size : ℕ) → Stand
   Lent : (mark : Mark) (done : Did) → Stand
 
--- what stands there, the counts of both devices as they were taken and as they are, and how many reads failed whose direct
--- reads aren't entered yet
+-- what stands there, the counts of both devices as they were taken and as they are, how many reads failed whose direct reads
+-- aren't entered yet, the info device, where it tells, and which blocks the store has claimed, and which are durable
 pub record BackingView : Type 0 where
   pub stand : Stand
   pub before : ℕ × ℕ
   pub now : ℕ × ℕ
   pub unspent : ℕ
+  pub info : Option Info
+  pub claimed : List Bool
+  pub durable : List Bool
 
 abbrev pub bare : BackingView
-bare = record { stand = Bare; before = (0, 0); now = (0, 0); unspent = 0 }
+bare = record { stand = Bare; before = (0, 0); now = (0, 0); unspent = 0; info = None; claimed = []; durable = [] }
 
 -- the path of the volume, if there is one
 abbrev pub path_in : Stand → Option (List ℕ)
@@ -123,7 +129,65 @@ pub record IsBackingOf (c : CoreView) (b : BackingView) : Type 0 where
   pub stands : StandsFor b.stand c
   pub covered : HasCovered b.stand (charges c.first c.entries + broken_in b.stand + b.unspent) b
 
+-- ---- the main file
+
+-- it is one of the device's, where there is one
+abbrev pub IsMainIn : Option Info → Option (List ℕ) → Type 0
+IsMainIn None main = ⊥
+IsMainIn (Some info) main = IsMain info main
+
+-- Each main file of a device that tells is left of the one that was found.
+abbrev pub AreLeft : ℕ → ℕ → Option (List ℕ) → Option Info → Type 0
+AreLeft size k found None = ⊥
+AreLeft size k found (Some info) = (main : Option (List ℕ)) → IsMain info main → IsLeft size k found main
+
+-- each is one of those that were home
+abbrev pub AreFromHome : (Option (List ℕ) → Type 0) → Option Info → Type 0
+AreFromHome IsHome None = ⊥
+AreFromHome IsHome (Some info) = Fewer IsHome (IsMain info)
+
+-- A volume that was only taken has what is left of the main file that was found, if one alone was. With that the log starts whose
+-- store is open, and the store has the core's blocks.
+abbrev pub FollowsIn : Stand → ℕ → ℕ → Option (Option (List ℕ)) → CoreView → BackingView → Type 0
+FollowsIn Bare size k found c b = Unit {0}
+FollowsIn (Taken path n) size k found c b = IfSome found (λ main. AreLeft size k main b.info)
+FollowsIn (Open path n j) size k found c b = IfSome found (λ main. StartsFound size k main c.first) × (b.claimed ≡ c.claimed) × (b.durable ≡ c.durable)
+FollowsIn (Lent mark done) size k found c b = IfSome found (λ main. StartsFound size k main c.first)
+
+abbrev pub Follows : ℕ → ℕ → Option (Option (List ℕ)) → CoreView → BackingView → Type 0
+Follows size k found c b = FollowsIn b.stand size k found c b
+
+-- A volume was opened, or wasn't: the main files are left of what was found, and the store, if there is one, starts with that.
+pub record OpensFound (size k : ℕ) (info info2 : Option Info) (stand : Stand) (claimed durable : List Bool) : Type 0 where
+  pub left : (found : Option (List ℕ)) → AreLeft size k found info → AreLeft size k found info2
+  pub starts : IsOpen stand → (found : Option (List ℕ)) → AreLeft size k found info → ClaimsFound size k found claimed
+  pub durable_is : durable ≡ claimed
+
+-- so it was with the volume that stood there
+abbrev pub OpensTaken : Stand → ℕ → Option Info → BackingView → Type 0
+OpensTaken (Taken path size) k info b = OpensFound size k info b.info b.stand b.claimed b.durable
+OpensTaken _ k info b = ⊥
+
+-- A main file of a store that is open claims what was claimed, and no more than is durable.
+abbrev pub ClaimsIn : Stand → List Bool → List Bool → Option (List ℕ) → Type 0
+ClaimsIn (Open path size k) claimed durable main = MainBetween size k claimed durable main
+ClaimsIn _ claimed durable main = Unit {0}
+
 -- ---- the depot
+
+-- each main file that is home was home before
+abbrev pub FewerMains : (List ℕ → Option (List ℕ) → Type 0) → (List ℕ → Option (List ℕ) → Type 0) → Type 0
+FewerMains IsMain IsMain' = (path : List ℕ) → Fewer (IsMain path) (IsMain' path)
+
+-- so it is elsewhere, and those of this path are the device's
+pub record PutsMain (path : List ℕ) (b : BackingView) (IsMain IsMain' : List ℕ → Option (List ℕ) → Type 0) : Type 0 where
+  pub here : (main : Option (List ℕ)) → IsMain' path main → IsMainIn b.info main × ClaimsIn b.stand b.claimed b.durable main
+  pub elsewhere : (other : List ℕ) → other ≢ path → Fewer (IsMain other) (IsMain' other)
+
+-- where a volume stands there, it goes home
+abbrev pub PutsMains : Option (List ℕ) → BackingView → (List ℕ → Option (List ℕ) → Type 0) → (List ℕ → Option (List ℕ) → Type 0) → Type 0
+PutsMains None b IsMain IsMain' = FewerMains IsMain IsMain'
+PutsMains (Some path) b IsMain IsMain' = PutsMain path b IsMain IsMain'
 
 pub record DepotView : Type 0 where
   pub out : List (List ℕ)
@@ -177,6 +241,11 @@ abbrev pub StartsWith : List Bool → Stand → Type 0
 StartsWith set (Open path size k) = length set ≡ count_of size k
 StartsWith set _ = ⊥
 
+-- the volume of a store that was open
+abbrev pub shut_stand : Stand → Stand
+shut_stand (Open path size k) = Taken path size
+shut_stand stand = stand
+
 -- no count of the devices fell
 abbrev pub Later : ℕ × ℕ → ℕ × ℕ → Type 0
 Later old new = (old.0 ≤ new.0) × (old.1 ≤ new.1)
@@ -194,6 +263,7 @@ pub record KeepsBacking (b b2 : BackingView) : Type 0 where
   pub path : path_in b2.stand ≡ path_in b.stand
   pub before : b2.before ≡ b.before
   pub backed : (c : CoreView) → IsBackingOf c b → IsBackingOf c b2
+  pub follows : (size k : ℕ) (found : Option (Option (List ℕ))) (c : CoreView) → Follows size k found c b → Follows size k found c b2
 
 -- a writer had its turn: what the loan wrote, if anything, is the block of its job
 pub record WroteFor (x : Option Task) (b2 : BackingView) (x2 : Option Task) : Type 0 where
@@ -216,6 +286,7 @@ pub record LoanStep (c : CoreView) (b : BackingView) (c2 : CoreView) (b2 : Backi
   pub path : path_in b2.stand ≡ path_in b.stand
   pub before : b2.before ≡ b.before
   pub backed : IsBackingOf c b → IsBackingOf c2 b2
+  pub follows : (size k : ℕ) (found : Option (Option (List ℕ))) → Follows size k found c b → Follows size k found c2 b2
   pub charges : b.stand ≡ Bare → charges c2.first c2.entries ≡ charges c.first c.entries
   pub enters : EntersBy (written_in b.stand) c c2
   pub written : IfSome (written_in b2.stand) (λ i. (written_in b.stand ≡ Some i) × (c2 ≡ c))
@@ -226,4 +297,5 @@ pub record AllowsLeave (i : ℕ) (c : CoreView) (b b2 : BackingView) : Type 0 wh
   pub stand_is : b2.stand ≡ b.stand
   pub before_is : b2.before ≡ b.before
   pub backed : (n : ℕ) (c2 : CoreView) → c2 ≡ record c { entries = c2.entries; out = c2.out; access = c2.access } → c2.entries ≡ c.entries ++ Direct i n Device ∷ [] → IsBackingOf c b → IsBackingOf c2 b2
+  pub follows : (size k : ℕ) (found : Option (Option (List ℕ))) → Follows size k found c b → Follows size k found c b2
   pub charges : b.stand ≡ Bare → (n : ℕ) → charges c.first (c.entries ++ Direct i n Device ∷ []) ≡ charges c.first c.entries

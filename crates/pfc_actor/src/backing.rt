@@ -1,14 +1,14 @@
 // What a run has of a file's volume, beside the file's core.
-ghost use Rattle.std.specs.Prelude.{◌≡◌, Contains, false, IsTrue, IfOk, IfErr, OnOk, OnErr};
+ghost use Rattle.std.specs.Prelude.{◌≡◌, [], Contains, false, IsTrue, IfOk, IfErr, OnOk, OnErr};
 ghost use Rattle.pfc_base.specs.Cinfo.{IsBlockSize};
 ghost use Rattle.pfc_world.specs.Counts.{RefusalCause};
-ghost use Rattle.pfc_actor.specs.Backings.{bare, depot_of, path_in, IsSoundAtHome, TakesVolume, StaysOut, IsOutAs, PutsBack, Opens, StartsWith, Later, OpensBy, standing_of, IsTaken, IsOpen, IsLent, written_in, KeepsBacking, WroteFor, LoanStep, AllowsLeave};
+ghost use Rattle.pfc_actor.specs.Backings.{bare, AreFromHome, FewerMains, OpensTaken, PutsMains, depot_of, shut_stand, path_in, IsSoundAtHome, TakesVolume, StaysOut, IsOutAs, PutsBack, Opens, StartsWith, Later, OpensBy, standing_of, IsTaken, IsOpen, IsLent, written_in, KeepsBacking, WroteFor, LoanStep, AllowsLeave};
 ghost use Rattle.pfc_actor.specs.Steps.{Own};
 
 use crate::client::Client;
 use crate::volume::{
     Volume, copied, counted, given_to, is_bare, lent_by, lent_for_turn, opened, parted, put_home,
-    spend, turn_of, write_by,
+    shut, spend, turn_of, write_by,
 };
 use pfc_base::{BlockSet, Memory};
 use pfc_cinfo::Head;
@@ -50,11 +50,11 @@ pub struct Backing<W: World, P: Depot<W>> {
 
 impl<W: World, P: Depot<W>> Model for Backing<W, P> {
     ghost use Rattle.pfc_actor.specs.Backings.{BackingView};
-    ghost use Rattle.pfc_actor.specs.Standings.{stand_of, now_of};
+    ghost use Rattle.pfc_actor.specs.Standings.{backing_of};
 
     ghost Value = { BackingView };
 
-    ghost view = { λ b. record { stand = stand_of b.held; before = b.before; now = now_of P.Data.faults P.Info.faults b.held; unspent = b.unspent } };
+    ghost view = { λ b. backing_of P.Data.faults P.Info.faults P.Info.told P.Info.seen b.held b.before b.unspent };
 }
 
 impl<W: World, P: Depot<W>> Backing<W, P> {
@@ -90,6 +90,8 @@ impl<W: World, P: Depot<W>> Backing<W, P> {
         ensures stays { OnErr result (StaysOut (depot_of P.out P.lent P.faults depot.old) (depot_of P.out P.lent P.faults depot.new)) }
         ensures cause { RefusalCause (P.faults depot.old) (P.faults depot.new) result }
         ensures unlisted { P.unlisted depot.new ≡ P.unlisted depot.old }
+        ensures mains { IsTrue P.Data.told → FewerMains (P.home_main depot.old) (P.home_main depot.new) }
+        ensures found { IfOk result (λ backing. IsTrue P.Data.told → AreFromHome (P.home_main depot.old known.path) backing.info) }
     {
         match depot.take(alloc, known.path()) {
             Taken::Volume(first, second) => {
@@ -116,6 +118,7 @@ impl<W: World, P: Depot<W>> Backing<W, P> {
         ensures before { self.new.before ≡ self.old.before }
         ensures unspent { self.new.unspent ≡ self.old.unspent }
         ensures later { Later self.old.now self.new.now }
+        ensures found { OpensTaken self.old.stand block_size self.old.info self.new }
         ensures cause { IfErr result (OpensBy self.old.now self.new.now) }
     {
         let held = mem::replace(&mut self.held, Held::Bare);
@@ -124,10 +127,21 @@ impl<W: World, P: Depot<W>> Backing<W, P> {
         answer
     }
 
+    /// Closes the store that is open. Its volume stands there as it was taken.
+    pub fn shut(&mut self)
+        requires { IsOpen self.old.stand }
+        ensures stand { self.new.stand ≡ shut_stand self.old.stand }
+        ensures rest { self.new ≡ record self.old { stand = self.new.stand; claimed = []; durable = [] } }
+    {
+        let held = mem::replace(&mut self.held, Held::Bare);
+        spend(mem::replace(&mut self.held, shut(held)));
+    }
+
     /// A copy of the set of the blocks with which the store starts.
     pub fn start(&self, alloc: Global) -> Result<BlockSet, Memory>
         requires { IsOpen self.now.stand }
-        ensures { IfOk result (λ set. StartsWith set self.now.stand) }
+        ensures length { IfOk result (λ set. StartsWith set self.now.stand) }
+        ensures durable { IfOk result (λ set. set ≡ self.now.durable) }
     {
         match &self.held {
             Held::Open(store) => copied(alloc, store),
@@ -244,6 +258,7 @@ impl<W: World, P: Depot<W>> Backing<W, P> {
         ensures sound { IsSoundAtHome W.told P.Data.told W.files (P.home_data depot.new) (P.home_main depot.new) }
         ensures back { PutsBack (path_in self.old.stand) self.old (depot_of P.out P.lent P.faults depot.old) (depot_of P.out P.lent P.faults depot.new) }
         ensures bare { self.new ≡ bare }
+        ensures mains { IsTrue P.Data.told → PutsMains (path_in self.old.stand) self.old (P.home_main depot.old) (P.home_main depot.new) }
         ensures unlisted { P.unlisted depot.new ≡ P.unlisted depot.old }
     {
         let held = mem::replace(&mut self.held, Held::Bare);

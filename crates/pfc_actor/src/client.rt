@@ -1,9 +1,10 @@
 // A client and its request at work.
-ghost use Rattle.std.specs.Prelude.{◌≡◌, ◌<◌, ◌≤◌, ◌+◌, ◌++◌, ◌∷◌, [], ℕ, List, length, replicate, true, false, IsTrue, Option, Some, None, IfOk, IfSome, IfNone, IsSome, OnOk, OnErr};
+ghost use Rattle.std.specs.Prelude.{Any, ◌≡◌, ◌<◌, ◌≤◌, ◌+◌, ◌++◌, ◌∷◌, [], ℕ, List, length, replicate, true, false, IsTrue, Option, Some, None, IfOk, IfSome, IfNone, IsSome, OnOk, OnErr};
 ghost use Rattle.pfc_client.specs.Session.{place_at};
 ghost use Rattle.pfc_log.specs.Charges.{GrowsCalmly};
 ghost use Rattle.pfc_core.specs.Marks.{Mark};
 ghost use Rattle.pfc_core.specs.View.{CoreView};
+ghost use Rattle.pfc_report.specs.Restart.{OpensPath};
 ghost use Rattle.pfc_actor.specs.declared.client.Place.TheVariants as place;
 ghost use Rattle.pfc_actor.specs.Seen.{seen};
 ghost use Rattle.pfc_actor.specs.Stages.{AtWork, Here};
@@ -288,7 +289,8 @@ impl<W: World, O: Origin<W>> Client<W, O> {
 
     /// The file that it wants opened.
     pub fn wanted(&self) -> Option<&Wanted<W>>
-        ensures { IfSome result (λ w. Wants w.now.path self.now.stage) }
+        ensures wants { IfSome result (λ w. Wants w.now.path self.now.stage) }
+        ensures asked { IfSome result (λ w. Any (OpensPath w.now.path) self.now.book.asked) }
     {
         match &self.stage {
             Stage::Wanted(wanted) => Some(wanted),

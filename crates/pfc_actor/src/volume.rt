@@ -6,8 +6,8 @@ ghost use Rattle.pfc_world.specs.Counts.{add_count, last_count};
 ghost use Rattle.pfc_world.specs.Depot.{AllSound, Loses, risen};
 ghost use Rattle.pfc_world.specs.Disk.{IsImage};
 ghost use Rattle.pfc_world.specs.Info.{IsMain};
-ghost use Rattle.pfc_actor.specs.Backings.{Bare, Taken, IsSoundAtHome, IsTaken, Later, Opens, OpensBy};
-ghost use Rattle.pfc_actor.specs.Standings.{stand_of, now_of, Counted, GivenBy, IsParted, LentBy, TurnsBy, WritesBlock, WritesBy};
+ghost use Rattle.pfc_actor.specs.Backings.{Bare, Taken, OpensFound, IsSoundAtHome, IsTaken, Later, Opens, OpensBy};
+ghost use Rattle.pfc_actor.specs.Standings.{stand_of, now_of, info_of, told_by, claimed_of, durable_of, ClaimsRight, OpensHeld, PutsVolume, Shuts, Counted, GivenBy, IsParted, LentBy, TurnsBy, WritesBlock, WritesBy};
 ghost use Rattle.pfc_writer.specs.Writer.{Task, turned};
 
 use crate::backing::Held;
@@ -86,12 +86,14 @@ pub(crate) fn parted<W: World, D: DataDev<W>, I: InfoDev<W>>(
     held: Held<W, D, I>,
 ) -> Option<Volume<W, D, I>>
     requires { IsTrue D.told → IsTrue I.told }
-    ensures { IsParted D.faults I.faults held result }
+    ensures parted { IsParted D.faults I.faults I.told I.seen held result }
+    ensures claims { ClaimsRight I.told I.seen held }
 {
     match held {
         Held::Bare => None,
         Held::Taken(volume) => Some(volume),
         Held::Open(store) => {
+            store.keeps();
             let known = store.known().copy();
             let (first, second) = store.parts();
             Some(Volume::new(known, first, second))
@@ -115,6 +117,7 @@ pub(crate) fn put_home<W: World, P: Depot<W>>(depot: &mut P, volume: Volume<W, P
     ensures faults { P.faults depot.new ≡ add_count (P.faults depot.old) (risen (P.lent depot.old volume.path) (P.Data.faults volume.first) (P.Info.faults volume.second)) }
     ensures first { P.Data.faults volume.first ≤ last_count }
     ensures second { P.Info.faults volume.second ≤ last_count }
+    ensures mains { IsTrue P.Data.told → PutsVolume volume.path (P.Info.seen volume.second).now (P.home_main depot.old) (P.home_main depot.new) }
     ensures unlisted { P.unlisted depot.new ≡ P.unlisted depot.old }
 {
     let Volume {
@@ -139,6 +142,7 @@ pub(crate) fn opened<W: World, D: DataDev<W>, I: InfoDev<W>>(
     requires alike { IsTrue D.told → IsTrue I.told }
     ensures opens { OnOk result.1 (Opens block_size (stand_of held) (stand_of result.0)) }
     ensures stays { OnErr result.1 (stand_of result.0 ≡ stand_of held) }
+    ensures found { OpensHeld I.told I.seen block_size held result.0 }
     ensures later { Later (now_of D.faults I.faults held) (now_of D.faults I.faults result.0) }
     ensures cause { IfErr result.1 (OpensBy (now_of D.faults I.faults held) (now_of D.faults I.faults result.0)) }
 {
@@ -160,6 +164,7 @@ fn opened_volume<W: World, D: DataDev<W>, I: InfoDev<W>>(
     requires alike { IsTrue D.told → IsTrue I.told }
     ensures opens { OnOk result.1 (Opens block_size (Taken volume.path volume.size) (stand_of result.0)) }
     ensures stays { OnErr result.1 (stand_of result.0 ≡ Taken volume.path volume.size) }
+    ensures found { OpensFound volume.size block_size (told_by I.told (I.seen volume.second).now) (info_of I.told I.seen result.0) (stand_of result.0) (claimed_of result.0) (durable_of result.0) }
     ensures later { Later (D.faults volume.first, I.faults volume.second) (now_of D.faults I.faults result.0) }
     ensures cause { IfErr result.1 (OpensBy (D.faults volume.first, I.faults volume.second) (now_of D.faults I.faults result.0)) }
 {
@@ -188,12 +193,28 @@ fn opened_volume<W: World, D: DataDev<W>, I: InfoDev<W>>(
     }
 }
 
+/// The volume of the store that stands there, as it was taken.
+pub(crate) fn shut<W: World, D: DataDev<W>, I: InfoDev<W>>(held: Held<W, D, I>) -> Held<W, D, I>
+    requires alike { IsTrue D.told → IsTrue I.told }
+    ensures { Shuts held result }
+{
+    match held {
+        Held::Open(store) => {
+            let known = store.known().copy();
+            let (first, second) = store.parts();
+            Held::Taken(Volume::new(known, first, second))
+        }
+        other => other,
+    }
+}
+
 /// A copy of the set of blocks that are on disk for good.
 pub(crate) fn copied<W: World, D: DataDev<W>, I: InfoDev<W>>(
     alloc: Global,
     store: &FileStore<W, D, I>,
 ) -> Result<BlockSet, Memory>
-    ensures { IfOk result (λ set. length set ≡ count_of store.now.size store.now.block_size) }
+    ensures length { IfOk result (λ set. length set ≡ count_of store.now.size store.now.block_size) }
+    ensures durable { IfOk result (λ set. set ≡ store.now.durable) }
 {
     store.keeps();
     let set = store.durable().copy(alloc)?;

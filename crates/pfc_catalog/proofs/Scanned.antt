@@ -1,9 +1,8 @@
 -- The catalog of the volumes that were looked at so far.
-use Rattle.std.proofs.Common.{◌≡◌, ◌≢◌, ◌↔◌, ◌⊎◌, inl, inr, ℕ, suc, ◌+◌, ◌<◌, ◌≤◌, Bool, true, false, not, ◌&&◌, cond, List, [], ◌∷◌, ◌++◌, Option, Some, None, Result, Ok, Err, length, map, take, get_or, refl, sym, ap, ◌∙◌, subst, arith, T, length-take, get_or-take}
-use Rattle.std.specs.Prelude.{IsTrue, IsSome, Contains, All, AllPairs, if◌then◌else◌, sum_by}
-use Rattle.std.specs.List.{count_by, list_any}
+use Rattle.std.proofs.Common.{◌≡◌, ◌≢◌, ◌↔◌, inl, inr, ℕ, ◌+◌, ◌<◌, ◌≤◌, Bool, true, false, not, cond, List, [], ◌∷◌, ◌++◌, Option, Some, None, Result, Ok, Err, length, take, get_or, refl, sym, ap, ◌∙◌, subst, arith, T, length-take, get_or-take}
+use Rattle.std.specs.Prelude.{IsTrue, IsSome, Contains, All, if◌then◌else◌}
 use Rattle.std.specs.Map.{keys_of, lookup}
-use Rattle.std.specs.Cmp.Lexicographic.{pointwise, slice_cmp, same_text}
+use Rattle.std.specs.Cmp.Lexicographic.{slice_cmp, same_text}
 use Rattle.std.specs.Ordering.{nat_cmp, is_eq}
 use Rattle.std.specs.declared.cmp.Ordering.TheVariants.{Less, Equal}
 use Rattle.std.proofs.lemmas.Cmp.{nat_list_eq_equiv, nat_list_cmp_total, tied_itself}
@@ -13,12 +12,11 @@ use Rattle.std.proofs.lemmas.List.Elements.{All-nil, All-cons, All-head, All-tai
 use Rattle.std.proofs.lemmas.Map.Views.{Contains-keys_from_lookup, Contains-from_lookup, IsSome-lookup_from_Contains, list_any-from_Contains}
 use Rattle.std.proofs.lemmas.Option.{none-some}
 use Rattle.pfc_base.specs.declared.memory.Memory.{Memory}
-use Rattle.pfc_world.specs.Counts.{Rose, RoseBy, RefusalCause, last_count}
+use Rattle.pfc_world.specs.Counts.{Rose, RoseBy, RefusalCause}
 use Rattle.pfc_world.specs.declared.refusal.Refusal.{Refusal}
 use Rattle.pfc_world.specs.declared.refusal.Refusal.TheVariants as refusal
 use Rattle.pfc_world.specs.Depot.{InByteOrder}
 use Rattle.pfc_catalog.specs.declared.entry.Entry.{Entry}
-use Rattle.pfc_catalog.specs.declared.entry.State.TheVariants.{Home}
 use Rattle.pfc_catalog.specs.declared.scanning.Looked.{Looked}
 use Rattle.pfc_catalog.specs.declared.scanning.Looked.TheVariants.{Out, Broken, Known}
 use Rattle.pfc_catalog.specs.Entry.{shell_of}

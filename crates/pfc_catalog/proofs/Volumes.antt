@@ -1,10 +1,10 @@
 -- A volume that is taken from a depot, read, and put back.
-use Rattle.std.proofs.Common.{◌≡◌, ◌≢◌, ◌↔◌, ◌⊎◌, inl, inr, ⊎_elim, ℕ, suc, Bool, true, false, List, Option, Some, None, Result, Ok, Err, length, refl, sym, ap, ◌∙◌, subst, arith}
+use Rattle.std.proofs.Common.{◌≡◌, ◌≢◌, ◌↔◌, ◌⊎◌, inl, inr, ⊎_elim, ℕ, Bool, true, false, List, Option, Some, None, Result, Ok, Err, length, refl, sym, ap, ◌∙◌, subst, arith}
 use Rattle.std.specs.Prelude.{IsTrue, IfOk, Contains}
 use Rattle.std.specs.Bool.{Decides}
 use Rattle.std.specs.Str.{bytes_eq}
 use Rattle.std.proofs.lemmas.Slice.Eq.{bytes_eq-Decides}
-use Rattle.pfc_base.specs.Cinfo.{Cinfo, IsCinfo}
+use Rattle.pfc_base.specs.Cinfo.{Cinfo}
 use Rattle.pfc_base.specs.declared.memory.Memory.{Memory}
 use Rattle.pfc_cinfo.specs.Cinfo.{claimed_bytes}
 use Rattle.pfc_access.specs.Records.{last_use}
@@ -20,7 +20,6 @@ use Rattle.pfc_store.specs.declared.broken.SurveyRefusal.TheVariants as refused
 use Rattle.pfc_store.specs.declared.found.Found.{Found}
 use Rattle.pfc_store.specs.declared.found.Found.TheVariants.{Valid, Cleared}
 use Rattle.pfc_catalog.specs.declared.scanning.Looked.{Looked}
-use Rattle.pfc_catalog.specs.declared.scanning.Looked.TheVariants.{Out, Broken, Known}
 use Rattle.pfc_catalog.specs.Scan.{IsSoundAtHome, StaysOut, KeepsMains, IsCached, KeepsCached, Tells, Sees, Weighs}
 
 decided : {P : Type 0} (r : Bool) → Decides r P → P ⊎ (P → ⊥)

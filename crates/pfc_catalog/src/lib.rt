@@ -6,6 +6,8 @@ mod entry;
 mod files;
 mod laws;
 mod order;
+#[cfg(test)]
+mod scan_tests;
 mod scanning;
 mod shells;
 #[cfg(test)]

@@ -13,7 +13,7 @@ use Rattle.pfc_config.specs.Kind.{kind_text}
 use Rattle.pfc_report.specs.Schedule.{Line, schedule_of, asked, is_asked}
 use Rattle.pfc_report.specs.Report.{ReportView, report_text}
 use Rattle.pfc_report.specs.Caused.{Spent, IsCausedReport}
-use Rattle.pfc_replay.specs.Depots.{DepotCounts, IsListed}
+use Rattle.pfc_replay.specs.Depots.{DepotState, IsListed}
 use Rattle.pfc_replay.specs.Words.{Call, call_of}
 use Rattle.pfc_replay.specs.declared.outcome.Outcome.{Outcome}
 use Rattle.pfc_replay.specs.declared.outcome.Outcome.TheVariants as out
@@ -77,17 +77,17 @@ Reaches given part.Depot = (call : Call) × (config : Config) × (lines : List L
 Reaches given (part.Link number) = (call : Call) × (config : Config) × (lines : List Line) × IsPlanned given call config lines × IsTrue (is_asked lines number)
 
 -- The count that rose where this failed. The depot is listed before any link is made.
-abbrev pub Failed : Part → ℕ → ℕ → DepotCounts → DepotCounts → Type 0
+abbrev pub Failed : Part → ℕ → ℕ → DepotState → DepotState → Type 0
 Failed part.Config host host' depot depot' = Rose host host'
 Failed part.Schedule host host' depot depot' = Rose host host'
 Failed part.Depot host host' depot depot' = Rose depot.unlisted depot'.unlisted
 Failed (part.Link number) host host' depot depot' = Rose host host' × IsListed depot depot'
 
 -- The cause of an outcome, with the counts before and after of the host's faults, of the depot, and of what the clients' links have spent.
-abbrev pub Causes : Bool → Files → Asked → ℕ → ℕ → DepotCounts → DepotCounts → Spent → Spent → Outcome → Type 0
+abbrev pub Causes : Bool → Files → Asked → ℕ → ℕ → DepotState → DepotState → Spent → Spent → Outcome → Type 0
 Causes told files given host host' depot depot' before after (out.Report report) =
     (call : Call) × (config : Config) × (lines : List Line) × IsPlanned given call config lines × IsListed depot depot'
-    × IsCausedReport told files config.blocksize config.queue lines before after depot.faults depot'.faults report
+    × IsCausedReport told files config.blocksize config.queue lines before after depot.disks depot'.disks report
 Causes told files given host host' depot depot' before after out.Usage = call_of given.words ≡ None
 Causes told files given host host' depot depot' before after (out.Config line kind) =
     (call : Call) × (call_of given.words ≡ Some call) × SaysOf given call.config (λ text. configured text call.capacity ≡ Err (Bad line kind))
@@ -109,15 +109,15 @@ ArePlainWhereUnhurt told files lines before after report =
     All (λ c. Stayed (before c.number).1 (after c.number).1 → count_by is_memory c.replies ≡ 0 → ArePlain told files (asked c.number lines) c.replies) report.clients
 
 -- what came to the sink is the text of such a report
-abbrev pub WritesPlain : Bool → Files → Asked → DepotCounts → DepotCounts → Spent → Spent → Bool → List ℕ → List ℕ → Type 0
+abbrev pub WritesPlain : Bool → Files → Asked → DepotState → DepotState → Spent → Spent → Bool → List ℕ → List ℕ → Type 0
 WritesPlain told files given depot depot' before after sink old new =
     (report : ReportView) × (call : Call) × (config : Config) × (lines : List Line) × IsPlanned given call config lines
-    × IsCausedReport told files config.blocksize config.queue lines before after depot.faults depot'.faults report × ArePlainWhereUnhurt told files lines before after report
+    × IsCausedReport told files config.blocksize config.queue lines before after depot.disks depot'.disks report × ArePlainWhereUnhurt told files lines before after report
     × Appends sink old new (report_text report)
 
 -- The host tells its texts, the words, the configuration and the schedule are of the form, and no count of the host, the depot's
 -- listing or the sink rose.
-pub record IsUnhindered (given : Asked) (host host' : ℕ) (depot depot' : DepotCounts) (sink sink' : ℕ) : Type 0 where
+pub record IsUnhindered (given : Asked) (host host' : ℕ) (depot depot' : DepotState) (sink sink' : ℕ) : Type 0 where
   pub told : IsTrue given.told
   pub call : (call : Call) × (config : Config) × (lines : List Line) × IsPlanned given call config lines
   pub host_stayed : Stayed host host'

@@ -6,7 +6,7 @@ use Rattle.pfc_report.specs.Schedule.{Line, schedule_of, is_asked}
 use Rattle.pfc_report.specs.Caused.{Spent, IsCausedReport}
 use Rattle.pfc_config.specs.declared.config.Config.{Config}
 use Rattle.pfc_scene.specs.declared.run.Settings.{Settings}
-use Rattle.pfc_replay.specs.Depots.{DepotCounts, IsListed}
+use Rattle.pfc_replay.specs.Depots.{DepotState, IsListed}
 use Rattle.pfc_replay.specs.Outcome.{Failed}
 use Rattle.pfc_replay.specs.declared.outcome.Outcome.{Outcome}
 use Rattle.pfc_replay.specs.declared.outcome.Part.{Part}
@@ -18,9 +18,9 @@ abbrev pub laid_out : Config → Settings
 laid_out config = record { block_size = config.blocksize; capacity = config.queue; writers = config.writers }
 
 -- The cause of an outcome of these lines, so laid out.
-abbrev pub Goes : Bool → Files → Settings → List Line → ℕ → ℕ → DepotCounts → DepotCounts → Spent → Spent → Outcome → Type 0
+abbrev pub Goes : Bool → Files → Settings → List Line → ℕ → ℕ → DepotState → DepotState → Spent → Spent → Outcome → Type 0
 Goes told files settings lines host host' depot depot' before after (out.Report report) =
-    IsListed depot depot' × IsCausedReport told files settings.block_size settings.capacity lines before after depot.faults depot'.faults report
+    IsListed depot depot' × IsCausedReport told files settings.block_size settings.capacity lines before after depot.disks depot'.disks report
 Goes told files settings lines host host' depot depot' before after (out.Fault part.Depot) = Failed part.Depot host host' depot depot'
 Goes told files settings lines host host' depot depot' before after (out.Fault (part.Link number)) =
     Failed (part.Link number) host host' depot depot' × IsTrue (is_asked lines number)
@@ -42,10 +42,10 @@ RunsTo writers tells texts name part.Depot = (lines : List Line) × Says writers
 RunsTo writers tells texts name (part.Link number) = (lines : List Line) × Says writers tells texts name lines × IsTrue (is_asked lines number)
 
 -- The cause of an outcome of the schedule of this name.
-abbrev pub Runs : Bool → Files → Settings → Bool → Texts → List ℕ → ℕ → ℕ → DepotCounts → DepotCounts → Spent → Spent → Outcome → Type 0
+abbrev pub Runs : Bool → Files → Settings → Bool → Texts → List ℕ → ℕ → ℕ → DepotState → DepotState → Spent → Spent → Outcome → Type 0
 Runs told files settings tells texts name host host' depot depot' before after (out.Report report) =
     (lines : List Line) × Says settings.writers tells texts name lines × IsListed depot depot'
-    × IsCausedReport told files settings.block_size settings.capacity lines before after depot.faults depot'.faults report
+    × IsCausedReport told files settings.block_size settings.capacity lines before after depot.disks depot'.disks report
 Runs told files settings tells texts name host host' depot depot' before after (out.Schedule line) =
     IsTrue tells → IsSomeAnd (file_at texts name) (λ text. schedule_of settings.writers text ≡ Err line)
 Runs told files settings tells texts name host host' depot depot' before after (out.Fault part) =

@@ -2,7 +2,7 @@ ghost use Rattle.std.specs.Prelude.{◌≡◌, ◌++◌, [], ◌∷◌, ℕ, ◌
 ghost use Rattle.pfc_base.specs.Cinfo.{IsBlockSize};
 ghost use Rattle.pfc_report.specs.Schedule.{asked_clients, is_asked};
 ghost use Rattle.pfc_report.specs.Spent.{rows_of, spent_by, nothing_spent};
-ghost use Rattle.pfc_report.specs.Caused.{IsCausedReport};
+ghost use Rattle.pfc_report.specs.Caused.{IsCausedReport, disks_of};
 ghost use Rattle.pfc_actor.specs.Backings.{IsSoundAtHome};
 ghost use Rattle.pfc_replay.specs.Play.{fresh_rows, given_back, StopsAt, StopsBy};
 ghost use Rattle.pfc_replay.specs.declared.play.PlayRefusal.TheVariants as stop;
@@ -114,7 +114,7 @@ fn play_over<W: World, H: Host<W>, P: Depot<W>, K: Clock>(
     requires fresh { rows_of H.Link.number H.Link.calls H.Link.faults links.items ≡ fresh_rows (asked_clients plan.now) }
     requires home { P.out depot.old ≡ [] }
     requires sound { IsSoundAtHome W.told P.Data.told W.files (P.home_data depot.old) (P.home_main depot.old) }
-    ensures caused { IfOk result (IsCausedReport W.told W.files settings.block_size settings.capacity plan.now (H.spent host.old) (H.spent host.new) (P.faults depot.old) (P.faults depot.new)) }
+    ensures caused { IfOk result (IsCausedReport W.told W.files settings.block_size settings.capacity plan.now (H.spent host.old) (H.spent host.new) (disks_of P.Data.told P.home_main P.faults depot.old) (disks_of P.Data.told P.home_main P.faults depot.new)) }
     ensures memory { IfErr result (λ refusal. refusal ≡ stop.Memory) }
     ensures home { P.out depot.new ≡ [] }
     ensures sound { IsSoundAtHome W.told P.Data.told W.files (P.home_data depot.new) (P.home_main depot.new) }
@@ -142,7 +142,7 @@ pub fn play<W: World, H: Host<W>, P: Depot<W>, K: Clock>(
     requires block_size { IsBlockSize settings.block_size }
     requires home { P.out depot.old ≡ [] }
     requires sound { IsSoundAtHome W.told P.Data.told W.files (P.home_data depot.old) (P.home_main depot.old) }
-    ensures caused { IfOk result (IsCausedReport W.told W.files settings.block_size settings.capacity plan.now (H.spent host.old) (H.spent host.new) (P.faults depot.old) (P.faults depot.new)) }
+    ensures caused { IfOk result (IsCausedReport W.told W.files settings.block_size settings.capacity plan.now (H.spent host.old) (H.spent host.new) (disks_of P.Data.told P.home_main P.faults depot.old) (disks_of P.Data.told P.home_main P.faults depot.new)) }
     ensures refused { IfErr result (StopsBy plan.now (H.faults host.old) (H.faults host.new)) }
     ensures home { P.out depot.new ≡ [] }
     ensures sound { IsSoundAtHome W.told P.Data.told W.files (P.home_data depot.new) (P.home_main depot.new) }

@@ -3,8 +3,8 @@ ghost use Rattle.pfc_base.specs.Cinfo.{IsBlockSize};
 ghost use Rattle.pfc_world.specs.Counts.{Rose, RefusalCause, Stayed};
 ghost use Rattle.pfc_world.specs.Depot.{CountsFaults};
 ghost use Rattle.pfc_world.specs.Files.{file_at};
-ghost use Rattle.pfc_actor.specs.Backings.{IsSoundAtHome};
-ghost use Rattle.pfc_replay.specs.Depots.{counts_of};
+ghost use Rattle.pfc_actor.specs.Backings.{FewerMains, IsSoundAtHome};
+ghost use Rattle.pfc_replay.specs.Depots.{state_of};
 ghost use Rattle.pfc_replay.specs.Outcome.{Asked, Causes, Writes, WritesFront, WritesPlain, IsUnhindered};
 ghost use Rattle.pfc_replay.specs.Run.{Goes, Runs, laid_out};
 
@@ -45,6 +45,7 @@ fn list_depot<W: World, P: Depot<W>>(alloc: Global, depot: &mut P) -> Result<(),
     requires sound { IsSoundAtHome W.told P.Data.told W.files (P.home_data depot.old) (P.home_main depot.old) }
     ensures unlisted { CountsFaults (P.unlisted depot.old) (P.unlisted depot.new) result }
     ensures later { P.faults depot.old ≤ P.faults depot.new }
+    ensures mains { IsTrue P.Data.told → FewerMains (P.home_main depot.old) (P.home_main depot.new) }
     ensures home { P.out depot.new ≡ P.out depot.old }
     ensures sound { IsSoundAtHome W.told P.Data.told W.files (P.home_data depot.new) (P.home_main depot.new) }
 {
@@ -67,7 +68,7 @@ fn run_plan<W: World, H: Host<W>, P: Depot<W>, K: Clock>(
     requires block_size { IsBlockSize settings.block_size }
     requires home { P.out depot.old ≡ [] }
     requires sound { IsSoundAtHome W.told P.Data.told W.files (P.home_data depot.old) (P.home_main depot.old) }
-    ensures goes { IfOk result (Goes W.told W.files settings plan.now (H.faults host.old) (H.faults host.new) (counts_of P.faults P.unlisted depot.old) (counts_of P.faults P.unlisted depot.new) (H.spent host.old) (H.spent host.new)) }
+    ensures goes { IfOk result (Goes W.told W.files settings plan.now (H.faults host.old) (H.faults host.new) (state_of P.Data.told P.home_main P.faults P.unlisted depot.old) (state_of P.Data.told P.home_main P.faults P.unlisted depot.new) (H.spent host.old) (H.spent host.new)) }
     ensures home { P.out depot.new ≡ [] }
     ensures sound { IsSoundAtHome W.told P.Data.told W.files (P.home_data depot.new) (P.home_main depot.new) }
 {
@@ -96,7 +97,7 @@ fn run_schedule<W: World, H: Host<W>, P: Depot<W>, K: Clock>(
     requires block_size { IsBlockSize settings.block_size }
     requires home { P.out depot.old ≡ [] }
     requires sound { IsSoundAtHome W.told P.Data.told W.files (P.home_data depot.old) (P.home_main depot.old) }
-    ensures runs { IfOk result (Runs W.told W.files settings H.told (H.texts host.old) name.now (H.faults host.old) (H.faults host.new) (counts_of P.faults P.unlisted depot.old) (counts_of P.faults P.unlisted depot.new) (H.spent host.old) (H.spent host.new)) }
+    ensures runs { IfOk result (Runs W.told W.files settings H.told (H.texts host.old) name.now (H.faults host.old) (H.faults host.new) (state_of P.Data.told P.home_main P.faults P.unlisted depot.old) (state_of P.Data.told P.home_main P.faults P.unlisted depot.new) (H.spent host.old) (H.spent host.new)) }
     ensures home { P.out depot.new ≡ [] }
     ensures sound { IsSoundAtHome W.told P.Data.told W.files (P.home_data depot.new) (P.home_main depot.new) }
 {
@@ -135,7 +136,7 @@ fn run<W: World, H: Host<W>, P: Depot<W>, K: Clock>(
     requires told { IsTrue W.told → IsTrue P.Data.told }
     requires home { P.out depot.old ≡ [] }
     requires sound { IsSoundAtHome W.told P.Data.told W.files (P.home_data depot.old) (P.home_main depot.old) }
-    ensures causes { IfOk result (Causes W.told W.files (record { told = H.told; texts = H.texts host.old; words = map string_bytes words.now }) (H.faults host.old) (H.faults host.new) (counts_of P.faults P.unlisted depot.old) (counts_of P.faults P.unlisted depot.new) (H.spent host.old) (H.spent host.new)) }
+    ensures causes { IfOk result (Causes W.told W.files (record { told = H.told; texts = H.texts host.old; words = map string_bytes words.now }) (H.faults host.old) (H.faults host.new) (state_of P.Data.told P.home_main P.faults P.unlisted depot.old) (state_of P.Data.told P.home_main P.faults P.unlisted depot.new) (H.spent host.old) (H.spent host.new)) }
     ensures home { P.out depot.new ≡ [] }
     ensures sound { IsSoundAtHome W.told P.Data.told W.files (P.home_data depot.new) (P.home_main depot.new) }
 {
@@ -177,17 +178,17 @@ pub fn run_replay<W: World, H: Host<W>, P: Depot<W>, K: Clock, S: Sink>(
     requires sound { IsSoundAtHome W.told P.Data.told W.files (P.home_data depot.old) (P.home_main depot.old) }
 
     // What was written is the text of an outcome that has its cause, whole, and the answer is its status ..
-    ensures whole { result ≤ 3 → Writes (Causes W.told W.files (record { told = H.told; texts = H.texts host.old; words = map string_bytes words.now }) (H.faults host.old) (H.faults host.new) (counts_of P.faults P.unlisted depot.old) (counts_of P.faults P.unlisted depot.new) (H.spent host.old) (H.spent host.new)) result S.told (S.written out.old) (S.written out.new) }
+    ensures whole { result ≤ 3 → Writes (Causes W.told W.files (record { told = H.told; texts = H.texts host.old; words = map string_bytes words.now }) (H.faults host.old) (H.faults host.new) (state_of P.Data.told P.home_main P.faults P.unlisted depot.old) (state_of P.Data.told P.home_main P.faults P.unlisted depot.new) (H.spent host.old) (H.spent host.new)) result S.told (S.written out.old) (S.written out.new) }
     // .. or a front of it, where the sink failed ..
-    ensures sink { result ≡ 4 → Rose (S.faults out.old) (S.faults out.new) × WritesFront (Causes W.told W.files (record { told = H.told; texts = H.texts host.old; words = map string_bytes words.now }) (H.faults host.old) (H.faults host.new) (counts_of P.faults P.unlisted depot.old) (counts_of P.faults P.unlisted depot.new) (H.spent host.old) (H.spent host.new)) S.told (S.written out.old) (S.written out.new) }
+    ensures sink { result ≡ 4 → Rose (S.faults out.old) (S.faults out.new) × WritesFront (Causes W.told W.files (record { told = H.told; texts = H.texts host.old; words = map string_bytes words.now }) (H.faults host.old) (H.faults host.new) (state_of P.Data.told P.home_main P.faults P.unlisted depot.old) (state_of P.Data.told P.home_main P.faults P.unlisted depot.new) (H.spent host.old) (H.spent host.new)) S.told (S.written out.old) (S.written out.new) }
     // .. or a front of it, or nothing, where memory ran out.
-    ensures memory { result ≡ 5 → (S.written out.new ≡ S.written out.old) ⊎ WritesFront (Causes W.told W.files (record { told = H.told; texts = H.texts host.old; words = map string_bytes words.now }) (H.faults host.old) (H.faults host.new) (counts_of P.faults P.unlisted depot.old) (counts_of P.faults P.unlisted depot.new) (H.spent host.old) (H.spent host.new)) S.told (S.written out.old) (S.written out.new) }
+    ensures memory { result ≡ 5 → (S.written out.new ≡ S.written out.old) ⊎ WritesFront (Causes W.told W.files (record { told = H.told; texts = H.texts host.old; words = map string_bytes words.now }) (H.faults host.old) (H.faults host.new) (state_of P.Data.told P.home_main P.faults P.unlisted depot.old) (state_of P.Data.told P.home_main P.faults P.unlisted depot.new) (H.spent host.old) (H.spent host.new)) S.told (S.written out.old) (S.written out.new) }
     ensures last { result ≤ 5 }
 
     // A client whose link had no fault is told the plain replies, but for want of memory.
-    ensures plain { result ≡ 0 → WritesPlain W.told W.files (record { told = H.told; texts = H.texts host.old; words = map string_bytes words.now }) (counts_of P.faults P.unlisted depot.old) (counts_of P.faults P.unlisted depot.new) (H.spent host.old) (H.spent host.new) S.told (S.written out.old) (S.written out.new) }
+    ensures plain { result ≡ 0 → WritesPlain W.told W.files (record { told = H.told; texts = H.texts host.old; words = map string_bytes words.now }) (state_of P.Data.told P.home_main P.faults P.unlisted depot.old) (state_of P.Data.told P.home_main P.faults P.unlisted depot.new) (H.spent host.old) (H.spent host.new) S.told (S.written out.old) (S.written out.new) }
     // Where all is of the form and nothing failed, the schedule is run, unless memory runs out.
-    ensures complete { IsUnhindered (record { told = H.told; texts = H.texts host.old; words = map string_bytes words.now }) (H.faults host.old) (H.faults host.new) (counts_of P.faults P.unlisted depot.old) (counts_of P.faults P.unlisted depot.new) (S.faults out.old) (S.faults out.new) → (result ≡ 0) ⊎ (result ≡ 5) }
+    ensures complete { IsUnhindered (record { told = H.told; texts = H.texts host.old; words = map string_bytes words.now }) (H.faults host.old) (H.faults host.new) (state_of P.Data.told P.home_main P.faults P.unlisted depot.old) (state_of P.Data.told P.home_main P.faults P.unlisted depot.new) (S.faults out.old) (S.faults out.new) → (result ≡ 0) ⊎ (result ≡ 5) }
 
     // With any answer each volume is home again, and sound.
     ensures home { P.out depot.new ≡ [] }

@@ -1,5 +1,5 @@
 -- Which reports are caused: what may be reported of a schedule, where the counts of the clients' links were these and are those.
-use Rattle.std.specs.Prelude.{◌≡◌, ◌≢◌, ℕ, ◌+◌, ◌*◌, ◌<◌, ◌≤◌, Bool, List, [], length, map, take, slice_get, slice_index_or, All, AllPairs, sum_by, Option, Some, None}
+use Rattle.std.specs.Prelude.{◌≡◌, ◌≢◌, ℕ, ◌+◌, ◌*◌, ◌<◌, ◌≤◌, Bool, List, [], length, map, take, slice_get, slice_index_or, All, AllPairs, sum_by, Option, Some, None, IsTrue}
 use Rattle.pfc_world.specs.Files.{Files, HasSize}
 use Rattle.pfc_world.specs.Counts.{RoseBy, last_count}
 use Rattle.pfc_client.specs.declared.reply.Reply.{Reply}
@@ -23,6 +23,7 @@ use Rattle.pfc_report.specs.declared.report.Told.{Told}
 use Rattle.pfc_report.specs.declared.report.Section.{Section}
 use Rattle.pfc_report.specs.Schedule.{Line, asked, asked_clients}
 use Rattle.pfc_report.specs.Report.{ReportView}
+use Rattle.pfc_report.specs.Restart.{AreContinued}
 
 -- the calls and the faults of each client's link
 abbrev pub Spent : Type 0
@@ -127,9 +128,18 @@ AreDroppedFull capacity logs = (x p i c : ℕ) (d : Section) → x < length logs
 abbrev pub AreClaimed : List Section → Type 0
 AreClaimed logs = All (λ section. IsCached section.log.first → IsUnfrozen section.log.entries → (i : ℕ) → claimed section.log.first i section.log.entries ≡ stored section.log.first i section.log.entries) logs
 
--- The report is caused: of files of this world, in blocks of k bytes, with a write queue of so many jobs, for what the schedule says. The counts of the clients' links were and are
--- these, and the depot's count of faults was and is.
-pub record IsCausedReport (told : Bool) (files : Files) (k capacity : ℕ) (lines : List Line) (before after : Spent) (faults faults' : ℕ) (report : ReportView) : Type 0 where
+-- What a depot's main files are at a moment, whether its devices tell it, and how many failed calls it counts.
+pub record Disks : Type 1 where
+  pub tells : Bool
+  pub main : List ℕ → Option (List ℕ) → Type 0
+  pub faults : ℕ
+
+abbrev pub disks_of : {P : Type 0} → Bool → (P → List ℕ → Option (List ℕ) → Type 0) → (P → ℕ) → P → Disks
+disks_of tells main faults depot = record { tells = tells; main = main depot; faults = faults depot }
+
+-- Clients and logs account for each other: of files of this world, in blocks of k bytes, with a write queue of so many jobs, for
+-- what the schedule says. The counts of the clients' links were and are these, and the depot's count of faults was and is.
+pub record IsAccounted (told : Bool) (files : Files) (k capacity : ℕ) (lines : List Line) (before after : Spent) (faults faults' : ℕ) (report : ReportView) : Type 0 where
   pub clients : AreTold lines report.clients
   pub permitted : All (λ c. ArePermitted told files (asked c.number lines) c.replies (before c.number).1 (after c.number).1) report.clients
   pub complete : AreComplete told files k report.logs
@@ -140,3 +150,8 @@ pub record IsCausedReport (told : Bool) (files : Files) (k capacity : ℕ) (line
   pub full : AreDroppedFull capacity report.logs
   pub claimed : AreClaimed report.logs
   pub others : (n : ℕ) → asked n lines ≡ [] → IsUnasked n report.logs (before n) (after n)
+
+-- The report is caused: clients and logs account for each other, and the logs go on from what the depot had, and say what it has.
+pub record IsCausedReport (told : Bool) (files : Files) (k capacity : ℕ) (lines : List Line) (before after : Spent) (disks disks' : Disks) (report : ReportView) : Type 0 where
+  pub accounted : IsAccounted told files k capacity lines before after disks.faults disks'.faults report
+  pub continued : IsTrue told → IsTrue disks.tells → AreContinued files k lines disks.main disks'.main report.logs

@@ -62,7 +62,7 @@ set_own : {X : Type 0} (xs : List X) (i : ℕ) (x : X) → x ≡ get_or xs i x �
 set_own xs i x e = ap (set xs i) e ∙ set-get_or xs i x
 
 any_backing : BackingView
-any_backing = record { stand = Bare; before = (0, 0); now = (0, 0); unspent = 0 }
+any_backing = record { stand = Bare; before = (0, 0); now = (0, 0); unspent = 0; info = None; claimed = []; durable = [] }
 
 -- core i is another
 pub backed_core : (cores : List CoreView) (backings : List BackingView) (i : ℕ) (c2 : CoreView) → AreBackings cores backings → i < length cores → ((e : BackingView) → IsBackingOf c2 (get_or backings i e)) → AreBackings (set cores i c2) backings

@@ -1,13 +1,17 @@
 -- Volumes go home, the last first.
-use Rattle.std.proofs.Common.{◌≡◌, ◌≢◌, ⊎_elim, inl, ℕ, ◌+◌, ◌<◌, ◌≤◌, List, [], ◌∷◌, ◌++◌, length, get_or, refl, subst, sym, ap, ◌∙◌, arith, append_assoc}
+use Rattle.std.proofs.Common.{◌≡◌, ◌≢◌, ◌⊎◌, ⊎_elim, inl, inr, ℕ, ◌+◌, ◌<◌, ◌≤◌, List, [], ◌∷◌, ◌++◌, length, get_or, refl, subst, sym, ap, ◌∙◌, arith, append_assoc}
 use Rattle.std.specs.Prelude.{Option, Some, None, Contains}
+use mathlib.Core.Logic.{dite}
+use native.Mathlib.Decide.{ℕ_discrete}
 use Rattle.std.proofs.lemmas.List.{append-nil, length_push, length-append, get_or_append_left}
 use Rattle.std.proofs.lemmas.List.Sums.{sum_by-cons}
 use Rattle.pfc_world.specs.Counts.{RoseBy}
 use Rattle.pfc_log.specs.Charges.{charges}
 use Rattle.pfc_core.specs.View.{CoreView}
-use Rattle.pfc_actor.specs.Backings.{Stand, Bare, Taken, Open, Lent, BackingView, DepotView, Covers, HasCovered, IsBackingOf, IsOutAs, PutsBack, ReturnsVolume, StaysOut, path_in, broken_in}
+use Rattle.pfc_actor.specs.Backings.{Stand, Bare, Taken, Open, Lent, BackingView, DepotView, Covers, HasCovered, IsBackingOf, IsOutAs, PutsBack, ReturnsVolume, StaysOut, path_in, broken_in, ClaimsIn, IsMainIn, PutsMains}
+use Rattle.pfc_actor.proofs.BackingHomes.{this_or_other}
 use Rattle.pfc_scene.specs.Scenes.{AreBackings, IsLentBy, StandsThere, all_charges, settled, settled_in}
+use Rattle.pfc_scene.specs.Ends.{ComesFrom, PutsFrom}
 use Rattle.pfc_scene.proofs.Casts.{below_or, at_end, no_core}
 
 -- ---- what is paid
@@ -150,3 +154,45 @@ pub last_out : (left after : List BackingView) (b : BackingView) (d : DepotView)
 last_out left after b d e lent =
     let low : length after < length (after ++ b ∷ []) = omega (arith, length_push after b) in
     subst (λ (x : BackingView). IsOutAs (path_in x.stand) x d) (at_end after b b (length after) low (omega arith)) ((subst (IsLentBy d) e lent).each (length after) b low)
+
+-- ---- what is home
+
+-- the one that goes home stands behind those that are left
+gone_at : (whole left : List BackingView) (b : BackingView) → AreFirst (left ++ b ∷ []) whole → (length left < length whole) × ((e : BackingView) → get_or whole (length left) e ≡ b)
+gone_at whole left b first =
+    let long = ap length first.is in
+    let more : length left < length (left ++ b ∷ []) = omega (arith, length_push left b) in (
+      omega (arith, long, length-append (left ++ b ∷ []) first.more, length_push left b),
+      λ e. ap (λ l. get_or l (length left) e) first.is ∙ get_or_append_left (left ++ b ∷ []) first.more e (length left) more ∙ at_end left b e (length left) more (omega arith),
+    )
+
+module _ (whole : List BackingView) (path : List ℕ) (main : Option (List ℕ)) (IsMain MidMain NewMain : List ℕ → Option (List ℕ) → Type 0) where
+  -- no other of those that went home is of this path
+  none_more : (left : List BackingView) (b : BackingView) → AreFirst (left ++ b ∷ []) whole → (path_in b.stand ≡ Some path → ⊥) → ((i : ℕ) (e : BackingView) → length (left ++ b ∷ []) ≤ i → i < length whole → path_in (get_or whole i e).stand ≡ Some path → ⊥) →
+      (i : ℕ) (e : BackingView) → length left ≤ i → i < length whole → path_in (get_or whole i e).stand ≡ Some path → ⊥
+  none_more left b first other none i e low high is = let at = gone_at whole left b first in let more = length_push left b in
+      dite (ℕ_discrete i (length left))
+      (λ q. other (ap (λ (x : BackingView). path_in x.stand) (sym (ap (λ n. get_or whole n e) q ∙ at.1 e)) ∙ is))
+      (λ far. none i e (omega (arith, low, far, more)) high is)
+
+  from_here : (left : List BackingView) (b : BackingView) → AreFirst (left ++ b ∷ []) whole → path_in b.stand ≡ Some path → IsMainIn b.info main × ClaimsIn b.stand b.claimed b.durable main → ComesFrom path main whole
+  from_here left b first is puts = let at = gone_at whole left b first in record { place = length left; low = at.0; backing = b; is = at.1; path_is = is; in_it = puts.0; claims = puts.1 }
+
+  one_more : (o : Option (List ℕ)) (left : List BackingView) (b : BackingView) → o ≡ path_in b.stand → AreFirst (left ++ b ∷ []) whole → PutsMains o b MidMain NewMain →
+      (MidMain path main → ComesFrom path main whole ⊎ (IsMain path main × ((i : ℕ) (e : BackingView) → length (left ++ b ∷ []) ≤ i → i < length whole → path_in (get_or whole i e).stand ≡ Some path → ⊥))) →
+      NewMain path main → ComesFrom path main whole ⊎ (IsMain path main × ((i : ℕ) (e : BackingView) → length left ≤ i → i < length whole → path_in (get_or whole i e).stand ≡ Some path → ⊥))
+  one_more None left b is first puts was home = ⊎_elim (λ from. inl from) (λ old. inr (old.0, none_more left b first (λ at. let clash = is ∙ at in cc) old.1)) (was (puts path main home))
+  one_more (Some p) left b is first puts was home = ⊎_elim
+      (λ same. inl (from_here left b first (sym is ∙ ap Some (sym same)) (puts.here main (subst (λ (q : List ℕ). NewMain q main) same home))))
+      (λ apart. ⊎_elim (λ from. inl from) (λ old. inr (old.0, none_more left b first (λ at. apart (let both = is ∙ at in let same : p ≡ path = cc in sym same)) old.1)) (was (puts.elsewhere path apart main home)))
+      (this_or_other p path)
+
+-- it goes home, and so may its main files
+pub pop_mains : (whole left after : List BackingView) (b : BackingView) (IsMain MidMain NewMain : List ℕ → Option (List ℕ) → Type 0) → AreFirst left whole → left ≡ after ++ b ∷ [] → PutsMains (path_in b.stand) b MidMain NewMain →
+    PutsFrom (length left) whole IsMain MidMain → PutsFrom (length after) whole IsMain NewMain
+pop_mains whole left after b IsMain MidMain NewMain first e puts was path main home =
+    one_more whole path main IsMain MidMain NewMain (path_in b.stand) after b refl (subst (λ l. AreFirst l whole) e first) puts (subst (λ l. PutsFrom (length l) whole IsMain MidMain) e was path main) home
+
+-- none went home yet
+pub none_put : (whole : List BackingView) (IsMain : List ℕ → Option (List ℕ) → Type 0) → PutsFrom (length whole) whole IsMain IsMain
+none_put whole IsMain path main home = inr (home, λ i e low high is. absurd (omega (arith, low, high)))

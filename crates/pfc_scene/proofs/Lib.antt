@@ -7,6 +7,7 @@ pub mod QueuedSteps
 pub mod QueuedWorks
 pub mod QueuedLoans
 pub mod Backed
+pub mod Following
 pub mod Moving
 pub mod Queued
 pub mod Fulls
@@ -23,3 +24,5 @@ pub mod Playing
 pub mod Homes
 pub mod Reports
 pub mod Beginning
+pub mod Lasting
+pub mod Finding

@@ -5,9 +5,10 @@ use Rattle.pfc_world.specs.Counts.{Rose, RoseBy}
 use Rattle.pfc_actor.specs.Backings.{DepotView}
 use Rattle.pfc_actor.specs.Clients.{ClientView}
 use Rattle.pfc_scene.specs.Scenes.{SceneView, Moves, Plays, Owes, settled, who}
+use Rattle.pfc_scene.proofs.Following.{goes_on_then, goes_still}
 
 pub moves_not : (v : SceneView) → Moves v v
-moves_not v = record { same = refl; clients_are = refl; writers_are = refl; block_size = refl; capacity = refl; lent = λ d h. h; settled_is = refl }
+moves_not v = record { same = refl; clients_are = refl; writers_are = refl; block_size = refl; capacity = refl; lent = λ d h. h; settled_is = refl; goes_on = goes_still v v refl refl refl }
 
 -- the scene as the fields say it
 pub moves_from : (u v w : SceneView) → u ≡ v → Moves u w → Moves v w
@@ -22,6 +23,7 @@ moves_on u v w m n = record {
   capacity = n.capacity ∙ m.capacity;
   lent = λ d h. n.lent d (m.lent d h);
   settled_is = n.settled_is ∙ m.settled_is;
+  goes_on = goes_on_then u v w n.same m.goes_on n.goes_on;
 }
 
 pub moves_plays : (v v2 : SceneView) (d : DepotView) → Moves v v2 → Plays v d v2 d
@@ -56,6 +58,7 @@ moves_owes v v2 m = record {
   capacity = m.capacity;
   lent = m.lent;
   settled_most = let is = m.settled_is in omega (arith, is);
+  goes_on = m.goes_on;
 }
 
 pub owes_after : (u v w : SceneView) → Moves u v → Owes v w → Owes u w
@@ -67,6 +70,7 @@ owes_after u v w m n = record {
   capacity = n.capacity ∙ m.capacity;
   lent = λ d h. n.lent d (m.lent d h);
   settled_most = let is = m.settled_is in let most = n.settled_most in omega (arith, is, most);
+  goes_on = goes_on_then u v w n.same m.goes_on n.goes_on;
 }
 
 pub owes_then : (u v w : SceneView) → Owes u v → Moves v w → Owes u w
@@ -78,6 +82,7 @@ owes_then u v w m n = record {
   capacity = n.capacity ∙ m.capacity;
   lent = λ d h. n.lent d (m.lent d h);
   settled_most = let is = n.settled_is in let most = m.settled_most in omega (arith, is, most);
+  goes_on = goes_on_then u v w n.same m.goes_on n.goes_on;
 }
 
 -- the failed call that is settled more is counted

@@ -1,12 +1,13 @@
 -- How a core gets its volume and its store: the scene where a core is made, a volume is taken, opened, lost or put home.
-use Rattle.std.proofs.Common.{◌≡◌, ◌⊎◌, inl, inr, ⊎_elim, ℕ, ◌+◌, ◌<◌, ◌≤◌, List, [], ◌∷◌, ◌++◌, length, get_or, set, refl, subst, sym, ap, ◌∙◌, arith}
+use Rattle.std.proofs.Common.{◌≡◌, ◌⊎◌, inl, inr, ⊎_elim, ℕ, ◌+◌, ◌<◌, ◌≤◌, List, [], ◌∷◌, ◌++◌, length, map, get_or, set, refl, subst, sym, ap, ◌∙◌, arith, Bool}
 use Rattle.std.specs.Prelude.{Option, Some, None, Contains, Result, Ok, Err, OnOk, OnErr, IfErr, IfSome}
-use Rattle.std.proofs.lemmas.List.{set-get_or, length_push, get_or_default, get_or_append_left, get_or-set_same}
+use Rattle.std.proofs.lemmas.List.{set-get_or, length-set, length_push, get_or_default, get_or_append_left, get_or-set_same}
 use Rattle.std.proofs.lemmas.List.Sums.{sum_by_push, sum_by-set}
 use Rattle.pfc_base.specs.Block.{count_of}
 use Rattle.pfc_world.specs.Counts.{RoseBy}
 use Rattle.pfc_world.specs.Depot.{risen}
 use Rattle.pfc_world.specs.declared.refusal.Refusal.{Refusal}
+use Rattle.pfc_world.specs.declared.refusal.Refusal.TheVariants.{Memory}
 use Rattle.pfc_log.specs.declared.entry.Uncached.TheVariants.{Volume}
 use Rattle.pfc_log.specs.declared.start.Start.TheVariants as start
 use Rattle.pfc_log.specs.Charges.{charges, start_charge}
@@ -16,9 +17,10 @@ use Rattle.pfc_core.specs.Marks.{Mark}
 use Rattle.pfc_core.specs.View.{CoreView}
 use Rattle.pfc_report.specs.Caused.{StartsFor}
 use Rattle.pfc_actor.specs.declared.backing.Standing.TheVariants as standing
-use Rattle.pfc_actor.specs.Backings.{BackingView, Stand, Bare, Taken, Open, Lent, bare, path_in, written_in, broken_in, standing_of, Covers, StandsFor, HasCovered, IsBackingOf, IsUnlent, IsOpen, IsTaken, Opens, OpensBy, Later, DepotView, TakesVolume, ReturnsVolume, PutsBack}
-use Rattle.pfc_scene.specs.Scenes.{SceneView, IsScene, IsCore, IsUnused, IsAlone, IsLentBy, AreBackings, Makes, Renews, Restarts, CoversFault, Moves, Owes, Plays, beside, lent_of, settled, settled_in}
-use Rattle.pfc_scene.proofs.Casts.{below_or, at_end, cast_beside, no_core}
+use Rattle.pfc_actor.specs.Backings.{BackingView, Stand, Bare, Taken, Open, Lent, bare, path_in, written_in, broken_in, standing_of, Covers, Follows, StandsFor, HasCovered, IsBackingOf, IsUnlent, IsTaken, Opens, OpensBy, Later, DepotView, TakesVolume, ReturnsVolume, PutsBack}
+use Rattle.pfc_scene.specs.Scenes.{SceneView, IsScene, IsCore, IsUnused, IsAlone, IsLentBy, AreBackings, Makes, Renews, Restarts, StartsCore, StartsNot, WasAsked, CoversFault, Moves, Owes, Plays, beside, lent_of, settled, settled_in, who}
+use Rattle.pfc_scene.proofs.Casts.{below_or, at_end, cast_beside, no_core, same_at}
+use Rattle.pfc_scene.proofs.Following.{follows_bare, goes_backing, goes_more, goes_set}
 use Rattle.pfc_scene.proofs.Backed.{bare_backing, backing_at, backed_core, backed_set, settled_core, settled_set, lent_set}
 use Rattle.pfc_scene.proofs.Queued.{backing_queued, made_queued, renewed_queued}
 use Rattle.pfc_scene.proofs.Making.{cached_cause, few_blocks, cached_unpaid, unused_charges, made, renewed}
@@ -58,8 +60,9 @@ made_scene v path cores backings beside_is s m =
     subst (λ (bs : List BackingView). IsScene (record v { cores = cores; backings = bs })) (sym beside_is)
     (subst (λ (cs : List CoreView). IsScene (record v { cores = cs; backings = v.backings ++ bare ∷ [] })) (sym m.behind) scene)
 
-pub made_moves : (v : SceneView) (path : List ℕ) (cores : List CoreView) (backings : List BackingView) → backings ≡ v.backings ++ bare ∷ [] → IsScene v → Makes v.block_size v.cores path cores → Moves v (record v { cores = cores; backings = backings })
-made_moves v path cores backings beside_is s m = let c = m.core in record {
+pub made_moves : (v : SceneView) (path : List ℕ) (cores : List CoreView) (backings : List BackingView) → backings ≡ v.backings ++ bare ∷ [] → IsScene v → Makes v.block_size v.cores path cores →
+    WasAsked path (map who v.clients) → Moves v (record v { cores = cores; backings = backings })
+made_moves v path cores backings beside_is s m asked = let c = m.core in record {
   same = refl;
   clients_are = refl;
   writers_are = refl;
@@ -69,6 +72,7 @@ made_moves v path cores backings beside_is s m = let c = m.core in record {
   settled_is = let more = settled_push v.cores v.backings c s.backed.long in let at = ap (λ (cs : List CoreView). settled cs backings) m.behind in
       let by = ap (settled (v.cores ++ c ∷ [])) beside_is in
       let none = ap (charges c.first) m.entries in let start = m.unpaid in omega (arith, more, at, by, none, start);
+  goes_on = goes_more v (record v { cores = cores; backings = backings }) c m.behind beside_is refl s.backed.long (subst (λ (p : List ℕ). WasAsked p (map who v.clients)) (sym m.path_is) asked);
 }
 
 -- ---- one core, or what stands beside it, is another
@@ -108,7 +112,8 @@ unlent_written (Lent mark done) P h = absurd h
 
 -- ---- a volume is taken
 
-stands_cached : (s : Stand) (c : CoreView) (path : List ℕ) → path_in s ≡ Some path → StandsFor s c → IsCached c.first × (c.path ≡ path)
+-- what stands there is of the core's path, and the core is cached
+pub stands_cached : (s : Stand) (c : CoreView) (path : List ℕ) → path_in s ≡ Some path → StandsFor s c → IsCached c.first × (c.path ≡ path)
 stands_cached Bare c path h st = absurd cc
 stands_cached (Taken p size) c path h st = let e : p ≡ path = cc in (st.2, sym st.0 ∙ e)
 stands_cached (Open p size k) c path h st = let e : p ≡ path = cc in (st.1, sym st.0.0 ∙ e)
@@ -183,8 +188,9 @@ lost_scene v i c c2 cores is s li ec none r first = subst (λ (cs : List CoreVie
   queued = renewed_queued v.capacity v.clients v.cores v.backings v.writers v.jobs i c c2 s.queued li ec r.entries_were r.entries_are r.out_was r.out_is;
 })
 
-pub lost_owes : (v : SceneView) (i : ℕ) (c c2 : CoreView) (cores : List CoreView) → cores ≡ set v.cores i c2 → IsScene v → i < length v.cores → c ≡ get_or v.cores i c → Renews c c2 → c2.first ≡ start.Uncached Volume → Owes v (record v { cores = cores })
-lost_owes v i c c2 cores is s li ec r first = let same = s.backed.long in let lb : i < length v.backings = omega (arith, li, same) in record {
+pub lost_owes : (v : SceneView) (i : ℕ) (c c2 : CoreView) (cores : List CoreView) → cores ≡ set v.cores i c2 → IsScene v → i < length v.cores → c ≡ get_or v.cores i c → ((e : BackingView) → (get_or v.backings i e).stand ≡ Bare) →
+    Renews c c2 → c2.first ≡ start.Uncached Volume → Owes v (record v { cores = cores })
+lost_owes v i c c2 cores is s li ec none r first = let same = s.backed.long in let lb : i < length v.backings = omega (arith, li, same) in record {
   same = refl;
   clients_are = refl;
   writers_are = refl;
@@ -193,6 +199,8 @@ lost_owes v i c c2 cores is s li ec r first = let same = s.backed.long in let lb
   lent = λ d h. h;
   settled_most = let b = get_or v.backings i bare in let now = ap (λ (cs : List CoreView). settled cs v.backings) is in
       let at = settled_for v.cores v.backings i c c2 b same li ec (at_place v.backings i lb) in let one = volume_charge b.stand c2 r.entries_are first in omega (arith, at, one, now);
+  goes_on = let b = get_or v.backings i bare in let eb = at_place v.backings i lb in
+      goes_set v (record v { cores = cores }) i c c2 b b is (sym (ap (set v.backings i) eb ∙ set-get_or v.backings i b)) refl same li ec eb r.path_is (λ found h. follows_bare c2.size v.block_size found c2 b (none bare));
 }
 
 pub owes_from : (u v w : SceneView) → u ≡ v → Owes u w → Owes v w
@@ -281,35 +289,29 @@ opened_scene r v i b b2 s li eb unlent ok err before unspent later =
           (unlent_written b2.stand (λ block. written_in b.stand ≡ Some block) (reopens_unlent v.block_size b.stand b2.stand unlent re));
     }
 
-pub opened_moves : {T : Type 0} (r : Result T Refusal) (v : SceneView) (i : ℕ) (b b2 : BackingView) → IsScene v → i < length v.cores → b ≡ get_or v.backings i b → IsUnlent b.stand →
-    OnOk r (Opens v.block_size b.stand b2.stand) → OnErr r (b2.stand ≡ b.stand) → b2.before ≡ b.before → Moves v (record v { backings = set v.backings i b2 })
-opened_moves r v i b b2 s li eb unlent ok err before =
-    let same = s.backed.long in let lb : i < length v.backings = omega (arith, li, same) in let re = opens_or r ok err in let c = get_or v.cores i no_core in record {
+pub unopened_scene : (v : SceneView) (i : ℕ) (c : CoreView) (b b2 : BackingView) → IsScene v → i < length v.cores → c ≡ get_or v.cores i c → b ≡ get_or v.backings i b → IsUnlent b.stand → b2.stand ≡ b.stand → b2.before ≡ b.before → b2.unspent ≡ b.unspent → Later b.now b2.now →
+    IsScene (record v { backings = set v.backings i b2 })
+unopened_scene v i c b b2 s li ec eb unlent same before unspent later = opened_scene {T = Unit {0}} (Err Memory) v i b b2 s li eb unlent tt same before unspent later
+
+-- the volume stands there as before
+pub unopened_moves : (v : SceneView) (i : ℕ) (c : CoreView) (b b2 : BackingView) → IsScene v → i < length v.cores → c ≡ get_or v.cores i c → b ≡ get_or v.backings i b → IsUnlent b.stand → StartsNot v.block_size c b b2 → b2.before ≡ b.before →
+    Moves v (record v { backings = set v.backings i b2 })
+unopened_moves v i c b b2 s li ec eb unlent not before =
+    let same = s.backed.long in let lb : i < length v.backings = omega (arith, li, same) in record {
       same = refl;
       clients_are = refl;
       writers_are = refl;
       block_size = refl;
       capacity = refl;
-      lent = λ d h. lent_set d v.backings i b b2 lb eb (reopens_path v.block_size b.stand b2.stand re) before h;
-      settled_is = let at = settled_at v.cores v.backings i c b b2 same li (get_or_default v.cores i no_core c li) eb in
-          let was = unlent_settled b.stand c unlent in let now = unlent_settled b2.stand c (reopens_unlent v.block_size b.stand b2.stand unlent re) in omega (arith, at, was, now);
+      lent = λ d h. lent_set d v.backings i b b2 lb eb (ap path_in not.stand_is) before h;
+      settled_is = let at = settled_at v.cores v.backings i c b b2 same li ec eb in
+          let was = unlent_settled b.stand c unlent in let now = unlent_settled b2.stand c (subst IsUnlent (sym not.stand_is) unlent) in omega (arith, at, was, now);
+      goes_on = goes_backing v (record v { backings = set v.backings i b2 }) i b b2 refl refl refl same li eb
+          (λ found x ex h. let at : c ≡ x = same_at v.cores i c x li ec ex in subst (λ (y : CoreView). Follows y.size v.block_size found y b2) at (not.follows found (subst (λ (y : CoreView). Follows y.size v.block_size found y b) (sym at) h)));
     }
 
-pub opened_unlent : {T : Type 0} (r : Result T Refusal) (k : ℕ) (s s2 : Stand) → IsUnlent s → OnOk r (Opens k s s2) → OnErr r (s2 ≡ s) → IsUnlent s2
-opened_unlent r k s s2 unlent ok err = reopens_unlent k s s2 unlent (opens_or r ok err)
-
-pub unlent_there : (backings : List BackingView) (i : ℕ) (b2 : BackingView) → i < length backings → IsUnlent b2.stand → (e : BackingView) → IsUnlent (get_or (set backings i b2) i e).stand
-unlent_there backings i b2 li unlent e = subst (λ (x : BackingView). IsUnlent x.stand) (sym (get_or-set_same backings i b2 e li)) unlent
-
-opens_open : (k : ℕ) (s s2 : Stand) → Opens k s s2 → IsOpen s2
-opens_open k Bare s2 h = absurd h
-opens_open k (Taken path size) s2 h = subst IsOpen (sym h) tt
-opens_open k (Open path size n) s2 h = absurd h
-opens_open k (Lent mark done) s2 h = absurd h
-
-pub opened_open : {T : Type 0} (r : Result T Refusal) (k : ℕ) (s : Stand) (backings : List BackingView) (i : ℕ) (b2 : BackingView) → i < length backings → OnOk r (Opens k s b2.stand) → OnOk r ((e : BackingView) → IsOpen (get_or (set backings i b2) i e).stand)
-opened_open (Ok x) k s backings i b2 li h = λ e. subst (λ (b : BackingView). IsOpen b.stand) (sym (get_or-set_same backings i b2 e li)) (opens_open k s b2.stand h)
-opened_open (Err why) k s backings i b2 li h = tt
+pub taken_there : (backings : List BackingView) (i : ℕ) (b2 : BackingView) → i < length backings → standing_of b2.stand ≡ standing.Taken → (e : BackingView) → standing_of (get_or (set backings i b2) i e).stand ≡ standing.Taken
+taken_there backings i b2 li taken e = subst (λ (x : BackingView). standing_of x.stand ≡ standing.Taken) (sym (get_or-set_same backings i b2 e li)) taken
 
 covers_none : (c : CoreView) (b : BackingView) → IsUnlent b.stand → IsBackingOf c b → Covers 0 b
 covers_none c b unlent is = let n = charges c.first c.entries + broken_in b.stand + b.unspent in covers_less 0 n b (omega arith) (unlent_covers b.stand n b unlent is.covered)
@@ -332,33 +334,51 @@ restarts_stands (Taken path size) c c2 r cached st = (st.0 ∙ sym r.path_is, st
 restarts_stands (Open path size k) c c2 r cached st = ((st.0.0 ∙ sym r.path_is, st.0.1 ∙ sym r.size_is, st.0.2 ∙ sym r.block_size_is), cached)
 restarts_stands (Lent mark done) c c2 r cached st = ((st.0.0 ∙ sym r.path_is, st.0.1 ∙ sym r.size_is, st.0.2 ∙ sym r.block_size_is), cached, st.2)
 
-restarts_charges : (k : ℕ) (c c2 : CoreView) → Restarts k c c2 → charges c2.first c2.entries ≡ charges c.first c.entries
-restarts_charges k c c2 re = let r = re.renews in
-    let was = ap (charges c.first) r.entries_were in let now = ap (charges c2.first) r.entries_are in let from = cached_unpaid c.first r.cached in let to = cached_unpaid c2.first re.cached in omega (arith, was, now, from, to)
+restarts_cached : (k : ℕ) (set : List Bool) (c c2 : CoreView) → Restarts k set c c2 → IsCached c2.first
+restarts_cached k set c c2 re = subst IsCached (sym re.first_is) tt
 
-pub restarted_scene : (v : SceneView) (i : ℕ) (c c2 : CoreView) (cores : List CoreView) → cores ≡ set v.cores i c2 → IsScene v → i < length v.cores → c ≡ get_or v.cores i c → Restarts c.block_size c c2 → IsScene (record v { cores = cores })
-restarted_scene v i c c2 cores is s li ec re =
+restarts_charges : (k : ℕ) (set : List Bool) (c c2 : CoreView) → Restarts k set c c2 → charges c2.first c2.entries ≡ charges c.first c.entries
+restarts_charges k set c c2 re = let r = re.renews in
+    let was = ap (charges c.first) r.entries_were in let now = ap (charges c2.first) r.entries_are in
+    let from = cached_unpaid c.first r.cached in let to = cached_unpaid c2.first (restarts_cached k set c c2 re) in omega (arith, was, now, from, to)
+
+pub restarted_scene : (v : SceneView) (i : ℕ) (set_is : List Bool) (c c2 : CoreView) (cores : List CoreView) → cores ≡ set v.cores i c2 → IsScene v → i < length v.cores → c ≡ get_or v.cores i c → Restarts c.block_size set_is c c2 → IsScene (record v { cores = cores })
+restarted_scene v i set_is c c2 cores is s li ec re =
     let size : c.block_size ≡ v.block_size = (subst (IsCore v.block_size i) (sym ec) (s.cast.places i c li)).block_size_is in
-    let start = subst (λ (k : ℕ). StartsFor None (count_of c.size k) c2.first) size re.start in
+    let start : StartsFor None (count_of c.size c.block_size) c2.first = subst (StartsFor None (count_of c.size c.block_size)) (sym re.first_is) re.length_is in
+    let cached = restarts_cached c.block_size set_is c c2 re in
     subst (λ (cs : List CoreView). IsScene (record v { cores = cs })) (sym is) (record {
-      cast = renewed v.block_size (λ w. beside w v) v.clients v.cores i c c2 s.cast li ec re.renews start;
+      cast = renewed v.block_size (λ w. beside w v) v.clients v.cores i c c2 s.cast li ec re.renews (subst (λ (k : ℕ). StartsFor None (count_of c.size k) c2.first) size start);
       backed = backed_core v.cores v.backings i c2 s.backed li (λ e. let b = get_or v.backings i e in let was = subst (λ (x : CoreView). IsBackingOf x b) (sym ec) (s.backed.each i c e li) in record {
-        stands = restarts_stands b.stand c c2 re.renews re.cached was.stands;
-        covered = subst (λ (n : ℕ). HasCovered b.stand (n + broken_in b.stand + b.unspent) b) (sym (restarts_charges c.block_size c c2 re)) was.covered;
+        stands = restarts_stands b.stand c c2 re.renews cached was.stands;
+        covered = subst (λ (n : ℕ). HasCovered b.stand (n + broken_in b.stand + b.unspent) b) (sym (restarts_charges c.block_size set_is c c2 re)) was.covered;
       });
       queued = let r = re.renews in renewed_queued v.capacity v.clients v.cores v.backings v.writers v.jobs i c c2 s.queued li ec r.entries_were r.entries_are r.out_was r.out_is;
     })
 
-pub restarted_moves : (v : SceneView) (i : ℕ) (c c2 : CoreView) (cores : List CoreView) → cores ≡ set v.cores i c2 → IsScene v → i < length v.cores → c ≡ get_or v.cores i c → Restarts c.block_size c c2 → Moves v (record v { cores = cores })
-restarted_moves v i c c2 cores is s li ec re = record {
-  same = refl;
-  clients_are = refl;
-  writers_are = refl;
-  block_size = refl;
-  capacity = refl;
-  lent = λ d h. h;
-  settled_is = ap (λ (cs : List CoreView). settled cs v.backings) is ∙ settled_core v.cores v.backings i c c2 s.backed.long li ec (restarts_charges c.block_size c c2 re);
-}
+pub started_scene : (v : SceneView) (i : ℕ) (c c2 : CoreView) (b b2 : BackingView) (cores : List CoreView) → cores ≡ set v.cores i c2 → IsScene v → i < length v.cores → c ≡ get_or v.cores i c → b ≡ get_or v.backings i b → IsUnlent b.stand → StartsCore v.block_size c b c2 b2 →
+    b2.before ≡ b.before → b2.unspent ≡ b.unspent → Later b.now b2.now → IsScene (record v { cores = cores; backings = set v.backings i b2 })
+started_scene v i c c2 b b2 cores is s li ec eb unlent starts before unspent later =
+    restarted_scene (record v { backings = set v.backings i b2 }) i b2.durable c c2 cores is (opened_scene {T = Unit {0}} (Ok tt) v i b b2 s li eb unlent starts.opens tt before unspent later) li ec starts.restarts
+
+-- the store is open, and a core starts with its blocks
+pub started_moves : (v : SceneView) (i : ℕ) (c c2 : CoreView) (b b2 : BackingView) (cores : List CoreView) → cores ≡ set v.cores i c2 → IsScene v → i < length v.cores → c ≡ get_or v.cores i c → b ≡ get_or v.backings i b → IsUnlent b.stand →
+    StartsCore v.block_size c b c2 b2 → b2.before ≡ b.before → Moves v (record v { cores = cores; backings = set v.backings i b2 })
+started_moves v i c c2 b b2 cores is s li ec eb unlent starts before =
+    let same = s.backed.long in let lb : i < length v.backings = omega (arith, li, same) in let re : Reopens v.block_size b.stand b2.stand = inl starts.opens in
+    let long : length (set v.backings i b2) ≡ length v.cores = length-set v.backings i b2 ∙ same in record {
+      same = refl;
+      clients_are = refl;
+      writers_are = refl;
+      block_size = refl;
+      capacity = refl;
+      lent = λ d h. lent_set d v.backings i b b2 lb eb (reopens_path v.block_size b.stand b2.stand re) before h;
+      settled_is = let at = settled_at v.cores v.backings i c b b2 same li ec eb in
+          let was = unlent_settled b.stand c unlent in let now = unlent_settled b2.stand c (reopens_unlent v.block_size b.stand b2.stand unlent re) in
+          let cores_are = ap (λ (cs : List CoreView). settled cs (set v.backings i b2)) is in
+          let core = settled_core v.cores (set v.backings i b2) i c c2 long li ec (restarts_charges c.block_size b2.durable c c2 starts.restarts) in omega (arith, at, was, now, cores_are, core);
+      goes_on = goes_set v (record v { cores = cores; backings = set v.backings i b2 }) i c c2 b b2 is refl refl same li ec eb starts.restarts.renews.path_is starts.follows;
+    }
 
 -- ---- a volume goes home
 

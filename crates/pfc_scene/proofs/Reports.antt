@@ -29,7 +29,7 @@ use Rattle.pfc_report.specs.declared.report.Told.{Told}
 use Rattle.pfc_report.specs.declared.report.Section.{Section}
 use Rattle.pfc_report.specs.Schedule.{Line, asked, asked_clients, is_asked}
 use Rattle.pfc_report.specs.Spent.{spent_by, nothing_spent}
-use Rattle.pfc_report.specs.Caused.{over, tally_in, StartsFor, StartsRight, FitBlocks, AreItsCalls, IsServed, AreItsFailures, AreDroppedFull, IsCausedReport}
+use Rattle.pfc_report.specs.Caused.{over, tally_in, StartsFor, StartsRight, FitBlocks, AreItsCalls, IsServed, AreItsFailures, AreDroppedFull, IsAccounted}
 use Rattle.pfc_actor.specs.Backings.{BackingView}
 use Rattle.pfc_actor.specs.StageView.{Rest}
 use Rattle.pfc_actor.specs.Stages.{shares, no_shares}
@@ -48,13 +48,13 @@ use Rattle.pfc_scene.proofs.Totals.{total_sum}
 
 -- ---- sections are what the cores were
 
-sections_long : (told : Bool) (files : Files) (logs : List Section) (cores : List CoreView) → AreSections told files logs cores → length logs ≡ length cores
+pub sections_long : (told : Bool) (files : Files) (logs : List Section) (cores : List CoreView) → AreSections told files logs cores → length logs ≡ length cores
 sections_long told files [] [] s = refl
 sections_long told files [] (c ∷ cores) s = absurd s
 sections_long told files (x ∷ logs) [] s = absurd s
 sections_long told files (x ∷ logs) (c ∷ cores) s = ap suc (sections_long told files logs cores s.1)
 
-section_at : (told : Bool) (files : Files) (logs : List Section) (cores : List CoreView) (i : ℕ) (d : Section) (e : CoreView) → AreSections told files logs cores → i < length logs → IsSection told files (get_or logs i d) (get_or cores i e)
+pub section_at : (told : Bool) (files : Files) (logs : List Section) (cores : List CoreView) (i : ℕ) (d : Section) (e : CoreView) → AreSections told files logs cores → i < length logs → IsSection told files (get_or logs i d) (get_or cores i e)
 section_at told files [] cores i d e s l = absurd (omega (arith, l))
 section_at told files (x ∷ logs) [] i d e s l = absurd s
 section_at told files (x ∷ logs) (c ∷ cores) zero d e s l = s.0
@@ -102,7 +102,7 @@ none_wait (suc n) es away = let rest = none_wait n es away in let one = ap {B = 
 ended_progress : (k i : ℕ) (c : CoreView) → IsCore k i c → IsComplete c.first c.entries → progress c ≡ times is_worked c.entries
 ended_progress k i c is complete = let jobs = is.jobs.waits (bound c.first) (omega arith) in let none = none_wait (bound c.first) c.entries complete.empty in omega (arith, jobs, none)
 
-any_section : Section
+pub any_section : Section
 any_section = record { path = []; log = record { first = Stored []; entries = []; room = 0 } }
 
 worked_are : (told : Bool) (files : Files) (k : ℕ) (logs : List Section) (cores : List CoreView) → AreSections told files logs cores → ((i : ℕ) (d : CoreView) → i < length cores → IsCore k i (get_or cores i d)) →
@@ -275,7 +275,7 @@ section_all told files P logs cores s h i d l = let long = sections_long told fi
 
 pub caused : (told : Bool) (files : Files) (k capacity : ℕ) (rest : (Mark → ℕ) → ℕ) (lines : List Line) (clients : List ClientView) (cores : List CoreView) (backings : List BackingView) (writers : List (Option Task)) (queue : List Mark) (logs : List Section) (f g : ℕ) →
     IsCast k rest clients cores → AreQueued capacity clients cores backings writers queue → ((j : ℕ) (d : ClientView) → j < length clients → IsDone told files (get_or clients j d).book (get_or clients j d).line (get_or clients j d).stage) → map who clients ≡ asked_by lines → AreSections told files logs cores → RoseBy f (all_charges cores) g →
-    IsCausedReport told files k capacity lines nothing_spent (spent_by (map row_of clients)) f g (record { clients = map told_of clients; logs = logs })
+    IsAccounted told files k capacity lines nothing_spent (spent_by (map row_of clients)) f g (record { clients = map told_of clients; logs = logs })
 caused told files k capacity rest lines clients cores backings writers queue logs f g s queued done is sections paid =
     let spent : (j : ℕ) → j < length clients → spent_by (map row_of clients) (get_or clients j nobody).book.number ≡ ((get_or clients j nobody).line.calls, (get_or clients j nobody).line.faults) =
     λ j l. row_at clients j nobody (λ i d m. (done i d m).number) s.numbers l in

@@ -23,6 +23,7 @@ use Rattle.pfc_actor.specs.Steps.{Own, Puts, Step}
 use Rattle.pfc_scene.specs.Scenes.{SceneView, IsScene, Moves, beside, lent_of}
 use Rattle.pfc_scene.proofs.Casts.{cast_beside, cast_client, cast_core, cast_on, moves_goes, no_core, own_goes, puts_goes, stays_by, stays_for, there}
 use Rattle.pfc_scene.proofs.Backed.{backed_by, backed_on, backed_set, backing_at, calm_charges, lent_set, settled_backing, settled_core, settled_like, settled_same}
+use Rattle.pfc_scene.proofs.Following.{follows_same, follows_sized, goes_backing, goes_core, goes_set, goes_still, same_blocks}
 use Rattle.pfc_scene.proofs.Moving.{moves_not, same_clients}
 use Rattle.pfc_scene.proofs.QueuedLoans.{alike_queued, loan_queued}
 use Rattle.pfc_scene.proofs.QueuedSteps.{on_queued}
@@ -86,6 +87,7 @@ client_moves v j a a2 ea own = record {
   capacity = refl;
   lent = λ d h. h;
   settled_is = refl;
+  goes_on = goes_still v (record v { clients = set v.clients j a2 }) refl refl refl;
 }
 
 -- a client is asked one more line
@@ -116,6 +118,7 @@ put_moves v j a a2 q2 ea puts = record {
   capacity = puts.capacity;
   lent = λ d h. h;
   settled_is = refl;
+  goes_on = goes_still v (record v { clients = set v.clients j a2; jobs = q2.jobs; capacity = q2.capacity }) refl refl refl;
 }
 
 -- ---- a client steps on a core
@@ -139,6 +142,7 @@ on_moves v j i a a2 c c2 s li ea ec st calm = record {
   capacity = refl;
   lent = λ d h. h;
   settled_is = settled_core v.cores v.backings i c c2 s.backed.long li ec (calm_charges c c2 (stays_by c c2 st.home) calm);
+  goes_on = goes_core v (record v { clients = set v.clients j a2; cores = set v.cores i c2 }) i c c2 refl refl refl s.backed.long li ec (same_blocks c c2 st.home);
 }
 
 -- ---- a store is lent, or comes back
@@ -172,6 +176,8 @@ loan_moves v i c c2 b b2 s li ec eb st = let same = s.backed.long in let lb : i 
   capacity = refl;
   lent = λ d h. lent_set d v.backings i b b2 lb eb st.path st.before h;
   settled_is = settled_same v.cores v.backings i c c2 b b2 same li ec eb (settled_like b.stand b2.stand c c2 st.path st.charges);
+  goes_on = let stays = stays_for c c2 st.home in
+      goes_set v (record v { cores = set v.cores i c2; backings = set v.backings i b2 }) i c c2 b b2 refl refl refl same li ec eb stays.path_is (λ found h. follows_sized v.block_size found c c2 b2 stays.size_is (st.follows c.size v.block_size found h));
 }
 
 -- ---- what stands beside a core goes on by itself
@@ -192,6 +198,7 @@ backing_moves v i d b b2 s li eb keeps = let same = s.backed.long in let lb : i 
   capacity = refl;
   lent = λ e h. lent_set e v.backings i b b2 lb eb keeps.path keeps.before h;
   settled_is = settled_backing v.cores v.backings i d b b2 same li eb keeps.path;
+  goes_on = goes_backing v (record v { backings = set v.backings i b2 }) i b b2 refl refl refl same li eb (λ found c ec h. keeps.follows c.size v.block_size found c h);
 }
 
 -- nothing came of it
@@ -233,4 +240,7 @@ leave_moves v j i block a a2 c c2 b b2 s li ea ec eb st enters allows =
       lent = λ d h. lent_set d v.backings i b b2 lb eb paths allows.before_is h;
       settled_is = settled_same v.cores v.backings i c c2 b b2 same li ec eb
           (settled_like b.stand b2.stand c c2 paths (λ h. ap (λ x. charges x c2.entries) first ∙ ap (charges c.first) enters ∙ allows.charges h a.book.number));
+      goes_on = let same_as = same_blocks c c2 st.home in
+          goes_set v (record v { clients = set v.clients j a2; cores = set v.cores i c2; backings = set v.backings i b2 }) i c c2 b b2 refl refl refl same li ec eb same_as.path_is
+          (λ found h. follows_same v.block_size found c c2 b2 same_as (allows.follows c.size v.block_size found h));
     }

@@ -20,7 +20,7 @@ unused_at u v i c same ec unused =
 low_from : (u v : SceneView) (i : ℕ) → u ≡ v → i < length v.cores → i < length u.cores
 low_from u v i same li = subst (λ (x : SceneView). i < length x.cores) (sym same) li
 
-core_right : (u v : SceneView) (i : ℕ) (c : CoreView) → u ≡ v → IsScene u → i < length v.cores → c ≡ get_or u.cores i c → IsCore u.block_size i c
+pub core_right : (u v : SceneView) (i : ℕ) (c : CoreView) → u ≡ v → IsScene u → i < length v.cores → c ≡ get_or u.cores i c → IsCore u.block_size i c
 core_right u v i c same s li ec = subst (IsCore u.block_size i) (sym ec) (s.cast.places i c (low_from u v i same li))
 
 pub block_size_at : (u v : SceneView) (i : ℕ) (c : CoreView) → u ≡ v → IsScene u → i < length v.cores → c ≡ get_or u.cores i c → IsBlockSize c.block_size

@@ -17,6 +17,7 @@ use Rattle.pfc_actor.specs.Backings.{BackingView, KeepsBacking, WroteFor}
 use Rattle.pfc_scene.specs.Queues.{AreQueued, MayGoOn}
 use Rattle.pfc_scene.specs.Scenes.{SceneView, IsScene, Moves, beside, lent_of}
 use Rattle.pfc_actor.proofs.Entering.{still}
+use Rattle.pfc_scene.proofs.Following.{goes_backing, goes_core, goes_still, same_blocks}
 use Rattle.pfc_scene.proofs.Casts.{stays_by, cast_beside, cast_core, no_core}
 use Rattle.pfc_scene.proofs.Backed.{backed_by, backed_on, calm_charges, lent_set, settled_backing, settled_core}
 use Rattle.pfc_scene.proofs.QueuedLoans.{end_queued}
@@ -56,10 +57,28 @@ gone_scene v w x x2 s lw ex gone may = record {
 }
 
 pub gone_moves : (v : SceneView) (w : ℕ) (x2 : Option Task) → Moves v (record v { writers = set v.writers w x2 })
-gone_moves v w x2 = record { same = refl; clients_are = refl; writers_are = length-set v.writers w x2; block_size = refl; capacity = refl; lent = λ d h. h; settled_is = refl }
+gone_moves v w x2 = record {
+  same = refl;
+  clients_are = refl;
+  writers_are = length-set v.writers w x2;
+  block_size = refl;
+  capacity = refl;
+  lent = λ d h. h;
+  settled_is = refl;
+  goes_on = goes_still v (record v { writers = set v.writers w x2 }) refl refl refl;
+}
 
 pub job_moves : (v : SceneView) (w : ℕ) (x2 : Option Task) (q2 : QueueView) → q2.capacity ≡ v.capacity → Moves v (with_job v w x2 q2)
-job_moves v w x2 q2 same = record { same = refl; clients_are = refl; writers_are = length-set v.writers w x2; block_size = refl; capacity = same; lent = λ d h. h; settled_is = refl }
+job_moves v w x2 q2 same = record {
+  same = refl;
+  clients_are = refl;
+  writers_are = length-set v.writers w x2;
+  block_size = refl;
+  capacity = same;
+  lent = λ d h. h;
+  settled_is = refl;
+  goes_on = goes_still v (with_job v w x2 q2) refl refl refl;
+}
 
 -- ---- a writer and a backing
 
@@ -106,6 +125,7 @@ turn_moves v w i x2 b b2 s li eb keeps = let long = s.backed.long in let lb : i 
   capacity = refl;
   lent = λ d h. lent_set d v.backings i b b2 lb eb keeps.path keeps.before h;
   settled_is = settled_backing v.cores v.backings i no_core b b2 long li eb keeps.path;
+  goes_on = goes_backing v (with_turn v w i x2 b2) i b b2 refl refl refl long li eb (λ found c ec h. keeps.follows c.size v.block_size found c h);
 }
 
 -- ---- a writer and a core
@@ -183,4 +203,5 @@ end_moves v w i x x2 c c2 s li ec e = record {
   capacity = refl;
   lent = λ d h. h;
   settled_is = settled_core v.cores v.backings i c c2 s.backed.long li ec (calm_charges c c2 (stays_by c c2 e.home) e.calm);
+  goes_on = goes_core v (with_end v w i x2 c2) i c c2 refl refl refl s.backed.long li ec (same_blocks c c2 e.home);
 }

@@ -1,8 +1,10 @@
 -- Clients, cores and what stands beside them.
-use Rattle.std.specs.Prelude.{◌≡◌, ℕ, ◌+◌, ◌<◌, ◌≤◌, ◌==◌, ◌++◌, if◌then◌else◌, false, List, [], ◌∷◌, length, map, sum_by, slice_index_or, Contains, Option, Some, None}
+use Rattle.std.specs.Prelude.{◌≡◌, ◌⊎◌, ℕ, ◌+◌, ◌<◌, ◌≤◌, ◌==◌, ◌++◌, if◌then◌else◌, false, List, [], ◌∷◌, length, map, sum_by, slice_index_or, Any, Bool, Contains, IfSome, IsTrue, Option, Some, None}
 use Rattle.pfc_base.specs.Block.{count_of}
 use Rattle.pfc_base.specs.Cinfo.{IsBlockSize}
 use Rattle.pfc_world.specs.Counts.{RoseBy}
+use Rattle.pfc_world.specs.Depot.{Fewer}
+use Rattle.pfc_world.specs.Files.{Files, file_at}
 use Rattle.pfc_world.specs.declared.refusal.Refusal.{Refusal}
 use Rattle.pfc_world.specs.declared.refusal.Refusal.TheVariants.{Fault, Memory}
 use Rattle.pfc_log.specs.Charges.{charges, start_charge, is_there}
@@ -16,7 +18,9 @@ use Rattle.pfc_core.specs.View.{CoreView}
 use Rattle.pfc_core.specs.OpenJobs.{AreJobs}
 use Rattle.pfc_writer.specs.Writer.{Task, work_weight}
 use Rattle.pfc_report.specs.Caused.{StartsFor}
-use Rattle.pfc_actor.specs.Backings.{BackingView, Stand, path_in, loan_weight, Covers, IsBackingOf, DepotView, IsOutAs}
+use Rattle.pfc_report.specs.Restart.{IsLeft, OpensPath}
+use Rattle.pfc_log.specs.declared.start.Start.TheVariants.{Stored}
+use Rattle.pfc_actor.specs.Backings.{BackingView, Stand, path_in, loan_weight, Covers, Follows, IsBackingOf, DepotView, IsOutAs, Opens}
 use Rattle.pfc_actor.specs.Backings as bk
 use Rattle.pfc_actor.specs.Stages.{shares}
 use Rattle.pfc_actor.specs.Steps.{IsTallied, IsWithin}
@@ -138,6 +142,45 @@ settled (c ∷ cores) (b ∷ backings) = settled_in b.stand c + settled cores ba
 abbrev pub all_charges : List CoreView → ℕ
 all_charges cores = sum_by (λ c. charges c.first c.entries) cores
 
+-- ---- what a run found on disk
+
+-- the paths that have a core
+abbrev pub paths_of : List CoreView → List (List ℕ)
+paths_of cores = map (λ c. c.path) cores
+
+-- Each core of this path, with what stands beside it, follows the main file that was found.
+abbrev pub AllFollow : List ℕ → Option (Option (List ℕ)) → ℕ → List CoreView → List BackingView → Type 0
+AllFollow path found k cores backings =
+    (i : ℕ) (d : CoreView) (e : BackingView) → i < length cores → (slice_index_or cores i d).path ≡ path → Follows (slice_index_or cores i d).size k found (slice_index_or cores i d) (slice_index_or backings i e)
+
+-- one of these clients was asked to open this path
+abbrev pub WasAsked : List ℕ → List (ℕ × List (List ℕ)) → Type 0
+WasAsked path asked = Any (λ x. Any (OpensPath path) x.1) asked
+
+-- the paths that have a core have one still, and those that have one now were asked for
+pub record GrowsPaths (v v2 : SceneView) : Type 0 where
+  pub stays : (path : List ℕ) → Contains (paths_of v.cores) path → Contains (paths_of v2.cores) path
+  pub asked : (path : List ℕ) → Contains (paths_of v2.cores) path → Contains (paths_of v.cores) path ⊎ WasAsked path (map who v2.clients)
+
+-- without the depot
+pub record GoesOn (v v2 : SceneView) : Type 0 where
+  pub grows : GrowsPaths v v2
+  pub follows : (path : List ℕ) (found : Option (Option (List ℕ))) → AllFollow path found v.block_size v.cores v.backings → AllFollow path found v2.block_size v2.cores v2.backings
+
+-- what stands beside cores of this path follows what was found, and each main file that is home is left of it
+abbrev pub StandsBy : ℕ → List ℕ → Option (Option (List ℕ)) → SceneView → (List ℕ → Option (List ℕ) → Type 0) → Type 0
+StandsBy size path found v IsMain = AllFollow path found v.block_size v.cores v.backings × IfSome found (λ was. (main : Option (List ℕ)) → IsMain path main → IsLeft size v.block_size was main)
+
+-- With it: this stays so of each file of the world, and where a path has no core no other main file has come.
+pub record Persists (files : Files) (v : SceneView) (IsMain : List ℕ → Option (List ℕ) → Type 0) (v2 : SceneView) (IsMain' : List ℕ → Option (List ℕ) → Type 0) : Type 0 where
+  pub grows : GrowsPaths v v2
+  pub stands : (path file : List ℕ) (found : Option (Option (List ℕ))) → file_at files path ≡ Some file → StandsBy (length file) path found v IsMain → StandsBy (length file) path found v2 IsMain'
+  pub untouched : (path : List ℕ) → (Contains (paths_of v2.cores) path → ⊥) → Fewer (IsMain path) (IsMain' path)
+
+-- where the world and the depot tell
+abbrev pub PersistsBy : Bool → Bool → Files → SceneView → (List ℕ → Option (List ℕ) → Type 0) → SceneView → (List ℕ → Option (List ℕ) → Type 0) → Type 0
+PersistsBy told tells files v IsMain v2 IsMain' = IsTrue told → IsTrue tells → Persists files v IsMain v2 IsMain'
+
 -- ---- what steps keep
 
 -- without the depot
@@ -149,6 +192,7 @@ pub record Moves (v v2 : SceneView) : Type 0 where
   pub capacity : v2.capacity ≡ v.capacity
   pub lent : (d : DepotView) → IsLentBy d v.backings → IsLentBy d v2.backings
   pub settled_is : settled v2.cores v2.backings ≡ settled v.cores v.backings
+  pub goes_on : GoesOn v v2
 
 -- with it: what is settled is covered by its count of faults, whatever that was before
 pub record Plays (v : SceneView) (d : DepotView) (v2 : SceneView) (d2 : DepotView) : Type 0 where
@@ -168,6 +212,7 @@ pub record Owes (v v2 : SceneView) : Type 0 where
   pub capacity : v2.capacity ≡ v.capacity
   pub lent : (d : DepotView) → IsLentBy d v.backings → IsLentBy d v2.backings
   pub settled_most : settled v2.cores v2.backings ≤ settled v.cores v.backings + 1
+  pub goes_on : GoesOn v v2
 
 -- after a fault one failed call is covered
 abbrev pub CoversFault : Refusal → BackingView → Type 0
@@ -190,11 +235,24 @@ pub record Renews (c c2 : CoreView) : Type 0 where
   pub entries_are : c2.entries ≡ []
   pub out_is : c2.out ≡ []
 
--- one that is cached still, and starts with a set of the file's blocks
-pub record Restarts (k : ℕ) (c c2 : CoreView) : Type 0 where
+-- one that is cached still, and starts with this set of the file's blocks
+pub record Restarts (k : ℕ) (set : List Bool) (c c2 : CoreView) : Type 0 where
   pub renews : Renews c c2
-  pub cached : IsCached c2.first
-  pub start : StartsFor None (count_of c.size k) c2.first
+  pub first_is : c2.first ≡ Stored set
+  pub length_is : length set ≡ count_of c.size k
+  pub durable_is : c2.durable ≡ set
+  pub claimed_is : c2.claimed ≡ set
+
+-- The store beside an unused core was opened: the core starts anew with its blocks, which follow what was found.
+pub record StartsCore (k : ℕ) (c : CoreView) (b : BackingView) (c2 : CoreView) (b2 : BackingView) : Type 0 where
+  pub opens : Opens k b.stand b2.stand
+  pub restarts : Restarts c.block_size b2.durable c c2
+  pub follows : (found : Option (Option (List ℕ))) → Follows c.size k found c b → Follows c2.size k found c2 b2
+
+-- it wasn't, and its volume stands there as before
+pub record StartsNot (k : ℕ) (c : CoreView) (b : BackingView) (b2 : BackingView) : Type 0 where
+  pub stand_is : b2.stand ≡ b.stand
+  pub follows : (found : Option (Option (List ℕ))) → Follows c.size k found c b → Follows c.size k found c b2
 
 -- the file isn't cached, or no cached core is of this path
 abbrev pub IsAlone : List CoreView → List ℕ → ℕ → Type 0

@@ -1,5 +1,5 @@
 // Cores, and how they are made.
-ghost use Rattle.std.specs.Prelude.{◌≡◌, ◌<◌, ◌≤◌, ℕ, [], replicate, length, slice_index_or, slice_set, IfSome, IfNone, IfOk, IsTrue, ◌↔◌, false, Some};
+ghost use Rattle.std.specs.Prelude.{◌≡◌, ◌<◌, ◌≤◌, ℕ, [], replicate, length, slice_index_or, slice_set, IfSome, IfNone, IfOk, IfErr, IsTrue, OnErr, ◌↔◌, false, Some};
 ghost use Rattle.pfc_base.specs.Block.{count_of};
 ghost use Rattle.pfc_base.specs.Cinfo.{IsBlockSize};
 ghost use Rattle.pfc_log.specs.Charges.{start_charge};
@@ -8,15 +8,16 @@ ghost use Rattle.pfc_log.specs.declared.entry.Uncached.TheVariants as uncached;
 ghost use Rattle.pfc_log.specs.declared.start.Start.TheVariants as start;
 ghost use Rattle.pfc_core.specs.New.{IsNew};
 ghost use Rattle.pfc_core.specs.View.{CoreView};
-ghost use Rattle.pfc_actor.specs.Backings.{IsOpen, StandsFor};
-ghost use Rattle.pfc_scene.specs.Scenes.{IsAlone, IsCore, IsUnused, Makes, Renews, Restarts};
+ghost use Rattle.pfc_actor.specs.declared.backing.Standing.TheVariants as standing;
+ghost use Rattle.pfc_actor.specs.Backings.{IsOpen, Later, OpensBy, StandsFor, standing_of};
+ghost use Rattle.pfc_scene.specs.Scenes.{IsAlone, IsCore, IsUnused, Makes, Renews, Restarts, StartsCore, StartsNot};
 
 use pfc_actor::{Backing, Wanted};
 use pfc_base::{BlockSet, Memory, Path, block_count};
 use pfc_cinfo::{Head, Records};
 use pfc_core::FileCore;
 use pfc_log::{Uncached, uncached_cause};
-use pfc_world::{Depot, Known, World};
+use pfc_world::{Depot, Known, Refusal, World};
 use std::alloc::Global;
 
 /// The core of a path that later opens join: the file is cached, or its volume couldn't be had.
@@ -173,7 +174,7 @@ pub(crate) fn without_volume<W: World>(
 }
 
 /// A core in the place of one that wasn't used, whose store is open. It starts with the blocks that the store has for good.
-pub(crate) fn with_store<W: World, P: Depot<W>>(
+fn with_store<W: World, P: Depot<W>>(
     alloc: Global,
     core: &FileCore<W>,
     backing: &Backing<W, P>,
@@ -183,7 +184,7 @@ pub(crate) fn with_store<W: World, P: Depot<W>>(
     requires few { count_of core.now.size core.now.block_size ≤ 16777216 }
     requires open { IsOpen backing.now.stand }
     requires stands { StandsFor backing.now.stand core.now }
-    ensures { IfOk result (λ new. Restarts core.now.block_size core.now new) }
+    ensures { IfOk result (λ new. Restarts core.now.block_size backing.now.durable core.now new) }
 {
     let start = backing.start(alloc)?;
     let head = backing.head(alloc)?;
@@ -195,4 +196,34 @@ pub(crate) fn with_store<W: World, P: Depot<W>>(
         start,
         head,
     )
+}
+
+/// Opens the store beside a core that wasn't used, at a moment in seconds, and gives the core that starts with its blocks. Where
+/// that fails the volume stands there as before.
+pub(crate) fn open_beside<W: World, P: Depot<W>>(
+    alloc: Global,
+    core: &FileCore<W>,
+    backing: &mut Backing<W, P>,
+    created: u64,
+) -> Result<FileCore<W>, Refusal>
+    requires unused { IsUnused core.now }
+    requires block_size { IsBlockSize core.now.block_size }
+    requires few { count_of core.now.size core.now.block_size ≤ 16777216 }
+    requires taken { standing_of backing.old.stand ≡ standing.Taken }
+    requires stands { StandsFor backing.old.stand core.now }
+    ensures ok { IfOk result (λ new. StartsCore core.now.block_size core.now backing.old new backing.new) }
+    ensures err { OnErr result (StartsNot core.now.block_size core.now backing.old backing.new) }
+    ensures before { backing.new.before ≡ backing.old.before }
+    ensures unspent { backing.new.unspent ≡ backing.old.unspent }
+    ensures later { Later backing.old.now backing.new.now }
+    ensures cause { IfErr result (OpensBy backing.old.now backing.new.now) }
+{
+    backing.open(alloc, core.block_size(), created)?;
+    match with_store(alloc, core, backing) {
+        Ok(core) => Ok(core),
+        Err(_) => {
+            backing.shut();
+            Err(Refusal::Memory)
+        }
+    }
 }

@@ -1,7 +1,7 @@
 // What is done after the last line of a schedule.
 ghost use Rattle.std.specs.Prelude.{◌≡◌, ◌<◌, length, IsTrue};
 ghost use Rattle.pfc_actor.specs.Backings.{depot_of, IsSoundAtHome};
-ghost use Rattle.pfc_scene.specs.Scenes.{IsLentBy, Moves, Plays};
+ghost use Rattle.pfc_scene.specs.Scenes.{IsLentBy, Moves, PersistsBy, Plays};
 
 use crate::scene::Scene;
 use pfc_client::DESCRIPTORS;
@@ -27,6 +27,7 @@ impl<W: World, O: Origin<W>, P: Depot<W>> Scene<W, O, P> {
         ensures sound { IsSoundAtHome W.told P.Data.told W.files (P.home_data depot.new) (P.home_main depot.new) }
         ensures lent { IsLentBy (depot_of P.out P.lent P.faults depot.new) self.new.backings }
         ensures plays { Plays self.old (depot_of P.out P.lent P.faults depot.old) self.new (depot_of P.out P.lent P.faults depot.new) }
+        ensures persists { PersistsBy W.told P.Data.told W.files self.old (P.home_main depot.old) self.new (P.home_main depot.new) }
         ensures unlisted { P.unlisted depot.new ≡ P.unlisted depot.old }
     {
         for _turn in 0..u64::MAX {
@@ -45,6 +46,7 @@ impl<W: World, O: Origin<W>, P: Depot<W>> Scene<W, O, P> {
         ensures sound { IsSoundAtHome W.told P.Data.told W.files (P.home_data depot.new) (P.home_main depot.new) }
         ensures lent { IsLentBy (depot_of P.out P.lent P.faults depot.new) self.new.backings }
         ensures plays { Plays self.old (depot_of P.out P.lent P.faults depot.old) self.new (depot_of P.out P.lent P.faults depot.new) }
+        ensures persists { PersistsBy W.told P.Data.told W.files self.old (P.home_main depot.old) self.new (P.home_main depot.new) }
         ensures unlisted { P.unlisted depot.new ≡ P.unlisted depot.old }
     {
         for j in 0..self.clients.len() {
@@ -107,6 +109,7 @@ impl<W: World, O: Origin<W>, P: Depot<W>> Scene<W, O, P> {
         ensures sound { IsSoundAtHome W.told P.Data.told W.files (P.home_data depot.new) (P.home_main depot.new) }
         ensures lent { IsLentBy (depot_of P.out P.lent P.faults depot.new) self.new.backings }
         ensures plays { Plays self.old (depot_of P.out P.lent P.faults depot.old) self.new (depot_of P.out P.lent P.faults depot.new) }
+        ensures persists { PersistsBy W.told P.Data.told W.files self.old (P.home_main depot.old) self.new (P.home_main depot.new) }
         ensures unlisted { P.unlisted depot.new ≡ P.unlisted depot.old }
     {
         for _turn in 0..u64::MAX {
@@ -125,6 +128,7 @@ impl<W: World, O: Origin<W>, P: Depot<W>> Scene<W, O, P> {
         ensures sound { IsSoundAtHome W.told P.Data.told W.files (P.home_data depot.new) (P.home_main depot.new) }
         ensures lent { IsLentBy (depot_of P.out P.lent P.faults depot.new) self.new.backings }
         ensures plays { Plays self.old (depot_of P.out P.lent P.faults depot.old) self.new (depot_of P.out P.lent P.faults depot.new) }
+        ensures persists { PersistsBy W.told P.Data.told W.files self.old (P.home_main depot.old) self.new (P.home_main depot.new) }
         ensures unlisted { P.unlisted depot.new ≡ P.unlisted depot.old }
     {
         for j in 0..self.clients.len() {
@@ -227,6 +231,7 @@ impl<W: World, O: Origin<W>, P: Depot<W>> Scene<W, O, P> {
         ensures sound { IsSoundAtHome W.told P.Data.told W.files (P.home_data depot.new) (P.home_main depot.new) }
         ensures lent { IsLentBy (depot_of P.out P.lent P.faults depot.new) self.new.backings }
         ensures plays { Plays self.old (depot_of P.out P.lent P.faults depot.old) self.new (depot_of P.out P.lent P.faults depot.new) }
+        ensures persists { PersistsBy W.told P.Data.told W.files self.old (P.home_main depot.old) self.new (P.home_main depot.new) }
         ensures unlisted { P.unlisted depot.new ≡ P.unlisted depot.old }
     {
         self.settle_all(alloc, depot, clock);

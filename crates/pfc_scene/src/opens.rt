@@ -1,18 +1,18 @@
 // How clients get to the cores of the files that they open: a core is made, its volume is taken, its store is opened.
-ghost use Rattle.std.specs.Prelude.{◌≡◌, ◌<◌, ◌≤◌, ◌+◌, ℕ, length, slice_index_or, slice_set, IfSome, IfErr, IsTrue, OnOk, OnErr};
+ghost use Rattle.std.specs.Prelude.{◌≡◌, ◌<◌, ◌≤◌, ◌+◌, ℕ, length, slice_index_or, slice_set, IfSome, IfErr, IsTrue, OnErr};
 ghost use Rattle.pfc_base.specs.Block.{count_of};
 ghost use Rattle.pfc_base.specs.Cinfo.{IsBlockSize};
 ghost use Rattle.pfc_world.specs.Counts.{RoseBy};
 ghost use Rattle.pfc_core.specs.View.{CoreView};
 ghost use Rattle.pfc_actor.specs.declared.backing.Standing.TheVariants as standing;
-ghost use Rattle.pfc_actor.specs.Backings.{BackingView, Bare, Covers, standing_of, depot_of, IsBackingOf, IsSoundAtHome, IsOpen, IsUnlent};
+ghost use Rattle.pfc_actor.specs.Backings.{BackingView, Bare, Covers, standing_of, depot_of, IsBackingOf, IsSoundAtHome, IsUnlent};
 ghost use Rattle.pfc_actor.specs.Clients.{ClientView};
 ghost use Rattle.pfc_actor.specs.Stages.{Here};
 ghost use Rattle.pfc_scene.specs.declared.opens.Prepared.TheVariants.{Ready};
-ghost use Rattle.pfc_scene.specs.Scenes.{CoversFault, IsLentBy, IsUnused, Moves, Owes, Plays, settled};
+ghost use Rattle.pfc_scene.specs.Scenes.{CoversFault, IsLentBy, IsUnused, Moves, Owes, PersistsBy, Plays, settled};
 
 use crate::cores::{
-    core_at, find_core, is_unused, make_core, put_core, with_store, without_volume,
+    core_at, find_core, is_unused, make_core, open_beside, put_core, without_volume,
 };
 use crate::scene::Scene;
 use pfc_actor::{Backing, Client, Standing, Wanted};
@@ -177,6 +177,7 @@ impl<W: World, O: Origin<W>, P: Depot<W>> Scene<W, O, P> {
         ensures sound { IsSoundAtHome W.told P.Data.told W.files (P.home_data depot.new) (P.home_main depot.new) }
         ensures lent { IsLentBy (depot_of P.out P.lent P.faults depot.new) self.new.backings }
         ensures plays { Plays self.old (depot_of P.out P.lent P.faults depot.old) self.new (depot_of P.out P.lent P.faults depot.new) }
+        ensures persists { PersistsBy W.told P.Data.told W.files self.old (P.home_main depot.old) self.new (P.home_main depot.new) }
         ensures unlisted { P.unlisted depot.new ≡ P.unlisted depot.old }
     {
         let Some(i) = self.core_of(j) else {
@@ -217,6 +218,7 @@ impl<W: World, O: Origin<W>, P: Depot<W>> Scene<W, O, P> {
         ensures sound { IsSoundAtHome W.told P.Data.told W.files (P.home_data depot.new) (P.home_main depot.new) }
         ensures lent { IsLentBy (depot_of P.out P.lent P.faults depot.new) self.new.backings }
         ensures plays { Plays self.old (depot_of P.out P.lent P.faults depot.old) self.new (depot_of P.out P.lent P.faults depot.new) }
+        ensures persists { PersistsBy W.told P.Data.told W.files self.old (P.home_main depot.old) self.new (P.home_main depot.new) }
         ensures unlisted { P.unlisted depot.new ≡ P.unlisted depot.old }
         ensures ready { result ≡ Ready → self.new ≡ self.old }
     {
@@ -243,6 +245,7 @@ impl<W: World, O: Origin<W>, P: Depot<W>> Scene<W, O, P> {
         ensures sound { IsSoundAtHome W.told P.Data.told W.files (P.home_data depot.new) (P.home_main depot.new) }
         ensures lent { IsLentBy (depot_of P.out P.lent P.faults depot.new) self.new.backings }
         ensures plays { Plays self.old (depot_of P.out P.lent P.faults depot.old) self.new (depot_of P.out P.lent P.faults depot.new) }
+        ensures persists { PersistsBy W.told P.Data.told W.files self.old (P.home_main depot.old) self.new (P.home_main depot.new) }
         ensures unlisted { P.unlisted depot.new ≡ P.unlisted depot.old }
     {
         match Backing::take(alloc, depot, self.cores[i].known().copy()) {
@@ -279,7 +282,7 @@ impl<W: World, O: Origin<W>, P: Depot<W>> Scene<W, O, P> {
     }
 
     /// Opens the store of the volume beside the core at this place, which nobody uses yet, at a moment in seconds. Where that fails
-    /// the volume goes home, and the file isn't cached.
+    /// the volume goes home, and after a failed call the file isn't cached.
     fn open_store(
         &mut self,
         alloc: Global,
@@ -295,10 +298,11 @@ impl<W: World, O: Origin<W>, P: Depot<W>> Scene<W, O, P> {
         ensures sound { IsSoundAtHome W.told P.Data.told W.files (P.home_data depot.new) (P.home_main depot.new) }
         ensures lent { IsLentBy (depot_of P.out P.lent P.faults depot.new) self.new.backings }
         ensures plays { Plays self.old (depot_of P.out P.lent P.faults depot.old) self.new (depot_of P.out P.lent P.faults depot.new) }
+        ensures persists { PersistsBy W.told P.Data.told W.files self.old (P.home_main depot.old) self.new (P.home_main depot.new) }
         ensures unlisted { P.unlisted depot.new ≡ P.unlisted depot.old }
     {
-        match self.open_backing(alloc, created, i) {
-            Ok(()) => self.start_core(alloc, depot, i),
+        match self.start_core(alloc, created, i) {
+            Ok(()) => Ok(()),
             Err(Refusal::Fault) => self.lose_store(alloc, depot, i),
             Err(Refusal::Memory) => {
                 self.return_volume(depot, i);
@@ -307,18 +311,24 @@ impl<W: World, O: Origin<W>, P: Depot<W>> Scene<W, O, P> {
         }
     }
 
-    /// Opens the store of the volume beside the core at this place, which nobody uses yet, at a moment in seconds.
-    fn open_backing(&mut self, alloc: Global, created: u64, i: usize) -> Result<(), Refusal>
+    /// Opens the store of the volume beside the core at this place, which nobody uses yet, at a moment in seconds. A core that starts
+    /// with the blocks of the store takes its place.
+    fn start_core(&mut self, alloc: Global, created: u64, i: usize) -> Result<(), Refusal>
         requires i { i < length self.old.cores }
         requires unused { (e : CoreView) → IsUnused (slice_index_or self.old.cores i e) }
         requires taken { (e : BackingView) → standing_of (slice_index_or self.old.backings i e).stand ≡ standing.Taken }
         ensures moves { Moves self.old self.new }
-        ensures cores { self.new.cores ≡ self.old.cores }
-        ensures open { OnOk result ((e : BackingView) → IsOpen (slice_index_or self.new.backings i e).stand) }
-        ensures unlent { (e : BackingView) → IsUnlent (slice_index_or self.new.backings i e).stand }
+        ensures cores { OnErr result (self.new.cores ≡ self.old.cores) }
+        ensures taken { OnErr result ((e : BackingView) → standing_of (slice_index_or self.new.backings i e).stand ≡ standing.Taken) }
         ensures covers { IfErr result (λ why. (e : BackingView) → CoversFault why (slice_index_or self.new.backings i e)) }
     {
-        self.backings[i].open(alloc, self.block_size, created)
+        match open_beside(alloc, &self.cores[i], &mut self.backings[i], created) {
+            Ok(core) => {
+                put_core(&mut self.cores, i, core);
+                Ok(())
+            }
+            Err(refusal) => Err(refusal),
+        }
     }
 
     /// The volume beside the core at this place, which nobody uses yet, goes home after a failed call of its devices, and the file
@@ -328,47 +338,16 @@ impl<W: World, O: Origin<W>, P: Depot<W>> Scene<W, O, P> {
         requires lent { IsLentBy (depot_of P.out P.lent P.faults depot.old) self.old.backings }
         requires i { i < length self.old.cores }
         requires unused { (e : CoreView) → IsUnused (slice_index_or self.old.cores i e) }
-        requires unlent { (e : BackingView) → IsUnlent (slice_index_or self.old.backings i e).stand }
+        requires taken { (e : BackingView) → standing_of (slice_index_or self.old.backings i e).stand ≡ standing.Taken }
         requires covers { (e : BackingView) → Covers 1 (slice_index_or self.old.backings i e) }
         ensures sound { IsSoundAtHome W.told P.Data.told W.files (P.home_data depot.new) (P.home_main depot.new) }
         ensures lent { IsLentBy (depot_of P.out P.lent P.faults depot.new) self.new.backings }
         ensures plays { Plays self.old (depot_of P.out P.lent P.faults depot.old) self.new (depot_of P.out P.lent P.faults depot.new) }
+        ensures persists { PersistsBy W.told P.Data.told W.files self.old (P.home_main depot.old) self.new (P.home_main depot.new) }
         ensures unlisted { P.unlisted depot.new ≡ P.unlisted depot.old }
     {
         self.return_volume(depot, i);
         self.lose_volume(alloc, i)
-    }
-
-    /// Starts the core at this place, which nobody uses yet, with the blocks that its store has. Where that fails the volume goes home.
-    fn start_core(&mut self, alloc: Global, depot: &mut P, i: usize) -> Result<(), Memory>
-        requires sound { IsSoundAtHome W.told P.Data.told W.files (P.home_data depot.old) (P.home_main depot.old) }
-        requires lent { IsLentBy (depot_of P.out P.lent P.faults depot.old) self.old.backings }
-        requires i { i < length self.old.cores }
-        requires unused { (e : CoreView) → IsUnused (slice_index_or self.old.cores i e) }
-        requires open { (e : BackingView) → IsOpen (slice_index_or self.old.backings i e).stand }
-        ensures sound { IsSoundAtHome W.told P.Data.told W.files (P.home_data depot.new) (P.home_main depot.new) }
-        ensures lent { IsLentBy (depot_of P.out P.lent P.faults depot.new) self.new.backings }
-        ensures plays { Plays self.old (depot_of P.out P.lent P.faults depot.old) self.new (depot_of P.out P.lent P.faults depot.new) }
-        ensures unlisted { P.unlisted depot.new ≡ P.unlisted depot.old }
-    {
-        if self.restart(alloc, i).is_ok() {
-            return Ok(());
-        }
-        self.return_volume(depot, i);
-        Err(Memory)
-    }
-
-    /// A core that starts with the blocks of its store takes the place of the one at this place, which nobody uses yet.
-    fn restart(&mut self, alloc: Global, i: usize) -> Result<(), Memory>
-        requires i { i < length self.old.cores }
-        requires unused { (e : CoreView) → IsUnused (slice_index_or self.old.cores i e) }
-        requires open { (e : BackingView) → IsOpen (slice_index_or self.old.backings i e).stand }
-        ensures moves { Moves self.old self.new }
-        ensures memory { OnErr result (self.new ≡ self.old) }
-    {
-        let core = with_store(alloc, &self.cores[i], &self.backings[i])?;
-        put_core(&mut self.cores, i, core);
-        Ok(())
     }
 
     /// The volume beside the core at this place, which nobody uses yet, goes home. The depot counts what failed calls it covers.
@@ -377,15 +356,18 @@ impl<W: World, O: Origin<W>, P: Depot<W>> Scene<W, O, P> {
         requires lent { IsLentBy (depot_of P.out P.lent P.faults depot.old) self.old.backings }
         requires i { i < length self.old.cores }
         requires unused { (e : CoreView) → IsUnused (slice_index_or self.old.cores i e) }
-        requires unlent { (e : BackingView) → IsUnlent (slice_index_or self.old.backings i e).stand }
+        requires taken { (e : BackingView) → standing_of (slice_index_or self.old.backings i e).stand ≡ standing.Taken }
         ensures sound { IsSoundAtHome W.told P.Data.told W.files (P.home_data depot.new) (P.home_main depot.new) }
         ensures lent { IsLentBy (depot_of P.out P.lent P.faults depot.new) self.new.backings }
         ensures plays { Plays self.old (depot_of P.out P.lent P.faults depot.old) self.new (depot_of P.out P.lent P.faults depot.new) }
+        ensures persists { PersistsBy W.told P.Data.told W.files self.old (P.home_main depot.old) self.new (P.home_main depot.new) }
         ensures unlisted { P.unlisted depot.new ≡ P.unlisted depot.old }
         ensures cores { self.new.cores ≡ self.old.cores }
         ensures bare { (e : BackingView) → (slice_index_or self.new.backings i e).stand ≡ Bare }
         ensures pays { (e : BackingView) → Covers 1 (slice_index_or self.old.backings i e) → (f : ℕ) → RoseBy f (settled self.old.cores self.old.backings) (P.faults depot.old) → RoseBy f (settled self.new.cores self.new.backings + 1) (P.faults depot.new) }
     {
+        // Hands out that the core's size is that of the file.
+        let _known = self.cores[i].known();
         self.backings[i].put_back(depot);
     }
 }

@@ -1,21 +1,23 @@
 // A run of a plan: its clients and their links, its steps, its drain, its end.
-ghost use Rattle.std.specs.Prelude.{◌≡◌, ◌<◌, ◌≤◌, ◌+◌, ◌++◌, ◌∷◌, [], ℕ, List, length, slice_index_or, take, map, IfOk, OnOk, IsTrue, vec_len, vec_capacity, replicate, None, false, true, All, IfSome, Option, ⊤, reverse, if◌then◌else◌};
+ghost use Rattle.std.specs.Prelude.{◌≡◌, ◌≢◌, ◌<◌, ◌≤◌, ◌+◌, ◌++◌, ◌∷◌, [], ℕ, List, length, slice_index_or, take, map, IfOk, OnOk, IsTrue, vec_len, vec_capacity, replicate, None, false, true, All, IfSome, Option, ⊤, reverse, if◌then◌else◌};
 ghost use Rattle.pfc_report.specs.Schedule.{Line, asked, asked_clients};
 ghost use Rattle.pfc_report.specs.Plan.{line_of};
 ghost use Rattle.pfc_report.specs.Spent.{rows_of, spent_by, nothing_spent};
-ghost use Rattle.pfc_report.specs.Caused.{IsCausedReport};
+ghost use Rattle.pfc_report.specs.Caused.{IsAccounted, IsCausedReport, disks_of};
 ghost use Rattle.pfc_base.specs.Cinfo.{IsBlockSize};
 ghost use Rattle.pfc_world.specs.Counts.{RoseBy};
 ghost use Rattle.pfc_writer.specs.Writer.{Task};
 ghost use Rattle.pfc_actor.specs.Backings.{depot_of, IsSoundAtHome};
 ghost use Rattle.pfc_actor.specs.Clients.{ClientView, IsDone};
-ghost use Rattle.pfc_scene.specs.Scenes.{SceneView, IsScene, IsLentBy, settled, who, number_of};
+ghost use Rattle.pfc_scene.specs.Scenes.{SceneView, IsScene, IsLentBy, PersistsBy, settled, who, number_of};
 ghost use Rattle.pfc_actor.specs.Clients.{IsFresh};
-ghost use Rattle.pfc_scene.specs.Ends.{AreSections, row_of, told_of, asked_by, all_asked, fresh_book};
+ghost use Rattle.pfc_log.specs.Lawful.{IsCached};
+ghost use Rattle.pfc_actor.specs.declared.backing.Standing.TheVariants as standing;
+ghost use Rattle.pfc_scene.specs.Ends.{AreOpen, AreSections, PutsFrom, Settles, row_of, told_of, asked_by, all_asked, fresh_book};
 
 use crate::home::put_all;
 use crate::scene::Scene;
-use pfc_actor::{Book, Client};
+use pfc_actor::{Backing, Book, Client, Standing};
 use pfc_base::Memory;
 use pfc_core::FileCore;
 use pfc_report::{CLIENTS, Plan, Replies, Report, Section, Step, Told};
@@ -29,6 +31,26 @@ fn all_done<W: World, O: Origin<W>>(clients: &[Client<W, O>]) -> bool
 {
     for j in 0..clients.len() {
         if !clients[j].is_done() {
+            return false;
+        }
+    }
+    true
+}
+
+/// Whether this stands beside a core as its store at home does, if its file is cached and something happened on it.
+fn is_open<W: World>(core: &FileCore<W>, beside: Standing) -> bool
+    ensures { IsTrue result → IsCached core.now.first → core.now.entries ≢ [] → beside ≡ standing.Open }
+{
+    core.uncached().is_some() || core.log().len() == 0 || beside == Standing::Open
+}
+
+/// Whether each core whose file is cached has its store at home, if something happened on it.
+fn all_open<W: World, P: Depot<W>>(cores: &[FileCore<W>], backings: &[Backing<W, P>]) -> bool
+    requires { length backings.now ≡ length cores.now }
+    ensures { IsTrue result → AreOpen cores.now backings.now }
+{
+    for i in 0..cores.len() {
+        if !is_open(&cores[i], backings[i].standing()) {
             return false;
         }
     }
@@ -65,6 +87,7 @@ fn end_cores<W: World>(alloc: Global, cores: Vec<FileCore<W>>) -> Result<Vec<Sec
     let mut logs = Vec::with_capacity(alloc, cores.len())?;
     for core in cores {
         let path = core.known().path().copy();
+        core.keeps();
         if !core.settled() {
             return Err(Memory);
         }
@@ -103,6 +126,7 @@ fn play_step<W: World, O: Origin<W>, P: Depot<W>, K: Clock>(
     requires lent { IsLentBy (depot_of P.out P.lent P.faults depot.old) scene.old.backings }
     ensures sound { IsSoundAtHome W.told P.Data.told W.files (P.home_data depot.new) (P.home_main depot.new) }
     ensures lent { IsLentBy (depot_of P.out P.lent P.faults depot.new) scene.new.backings }
+    ensures persists { OnOk result (PersistsBy W.told P.Data.told W.files scene.old (P.home_main depot.old) scene.new (P.home_main depot.new)) }
     ensures paid { (f : ℕ) → RoseBy f (settled scene.old.cores scene.old.backings) (P.faults depot.old) → RoseBy f (settled scene.new.cores scene.new.backings) (P.faults depot.new) }
     ensures unlisted { P.unlisted depot.new ≡ P.unlisted depot.old }
     ensures asked { OnOk result (map who scene.new.clients ≡ map (all_asked (line_of step.entry ∷ [])) (map who scene.old.clients)) }
@@ -141,6 +165,7 @@ fn play<W: World, O: Origin<W>, P: Depot<W>, K: Clock>(
     requires lent { IsLentBy (depot_of P.out P.lent P.faults depot.old) scene.old.backings }
     ensures sound { IsSoundAtHome W.told P.Data.told W.files (P.home_data depot.new) (P.home_main depot.new) }
     ensures lent { IsLentBy (depot_of P.out P.lent P.faults depot.new) scene.new.backings }
+    ensures persists { OnOk result (PersistsBy W.told P.Data.told W.files scene.old (P.home_main depot.old) scene.new (P.home_main depot.new)) }
     ensures paid { (f : ℕ) → RoseBy f (settled scene.old.cores scene.old.backings) (P.faults depot.old) → RoseBy f (settled scene.new.cores scene.new.backings) (P.faults depot.new) }
     ensures unlisted { P.unlisted depot.new ≡ P.unlisted depot.old }
     ensures asked { OnOk result (map who scene.new.clients ≡ map (all_asked plan.now) (map who scene.old.clients)) }
@@ -175,14 +200,17 @@ impl<W: World, O: Origin<W>, P: Depot<W>> Scene<W, O, P> {
         ensures home { P.out depot.new ≡ [] }
         ensures unlisted { P.unlisted depot.new ≡ P.unlisted depot.old }
         ensures numbers { map O.number result.0.items ≡ map number_of self.clients }
-        ensures caused { (lines : List Line) (f : ℕ) → map who self.clients ≡ asked_by lines → RoseBy f (settled self.cores self.backings) (P.faults depot.old) → IfOk result.1 (IsCausedReport W.told W.files self.block_size self.capacity lines nothing_spent (spent_by (rows_of O.number O.calls O.faults result.0.items)) f (P.faults depot.new)) }
+        ensures settles { IfOk result.1 (λ report. Settles W.told W.files self report.logs) }
+        ensures mains { IsTrue P.Data.told → PutsFrom 0 self.backings (P.home_main depot.old) (P.home_main depot.new) }
+        ensures accounted { (lines : List Line) (f : ℕ) → map who self.clients ≡ asked_by lines → RoseBy f (settled self.cores self.backings) (P.faults depot.old) → IfOk result.1 (IsAccounted W.told W.files self.block_size self.capacity lines nothing_spent (spent_by (rows_of O.number O.calls O.faults result.0.items)) f (P.faults depot.new)) }
     {
         let (mut clients, cores, backings) = self.parts();
         let done = all_done(&clients);
+        let opened = all_open(&cores, &backings);
         put_all(depot, backings);
         clients.reverse();
         end_clients(clients, &mut links, &mut told);
-        if !done {
+        if !done || !opened {
             return (links, Err(Memory));
         }
         match end_cores(alloc, cores) {
@@ -274,7 +302,7 @@ pub fn run_scene<W: World, O: Origin<W>, P: Depot<W>, K: Clock>(
     requires home { P.out depot.old ≡ [] }
     requires sound { IsSoundAtHome W.told P.Data.told W.files (P.home_data depot.old) (P.home_main depot.old) }
     ensures numbers { map O.number result.0.items ≡ asked_clients plan.now }
-    ensures caused { IfOk result.1 (IsCausedReport W.told W.files settings.block_size settings.capacity plan.now nothing_spent (spent_by (rows_of O.number O.calls O.faults result.0.items)) (P.faults depot.old) (P.faults depot.new)) }
+    ensures caused { IfOk result.1 (IsCausedReport W.told W.files settings.block_size settings.capacity plan.now nothing_spent (spent_by (rows_of O.number O.calls O.faults result.0.items)) (disks_of P.Data.told P.home_main P.faults depot.old) (disks_of P.Data.told P.home_main P.faults depot.new)) }
     ensures home { P.out depot.new ≡ [] }
     ensures sound { IsSoundAtHome W.told P.Data.told W.files (P.home_data depot.new) (P.home_main depot.new) }
     ensures unlisted { P.unlisted depot.new ≡ P.unlisted depot.old }

@@ -1,7 +1,7 @@
 // How clients step, one move after the other.
 ghost use Rattle.std.specs.Prelude.{◌≡◌, ◌<◌, length, IsTrue};
 ghost use Rattle.pfc_actor.specs.Backings.{depot_of, IsSoundAtHome};
-ghost use Rattle.pfc_scene.specs.Scenes.{IsLentBy, Moves, Plays};
+ghost use Rattle.pfc_scene.specs.Scenes.{IsLentBy, Moves, PersistsBy, Plays};
 
 use crate::scene::{Scene, find_client};
 use pfc_actor::Place;
@@ -37,6 +37,7 @@ impl<W: World, O: Origin<W>, P: Depot<W>> Scene<W, O, P> {
         ensures sound { IsSoundAtHome W.told P.Data.told W.files (P.home_data depot.new) (P.home_main depot.new) }
         ensures lent { IsLentBy (depot_of P.out P.lent P.faults depot.new) self.new.backings }
         ensures plays { Plays self.old (depot_of P.out P.lent P.faults depot.old) self.new (depot_of P.out P.lent P.faults depot.new) }
+        ensures persists { PersistsBy W.told P.Data.told W.files self.old (P.home_main depot.old) self.new (P.home_main depot.new) }
         ensures unlisted { P.unlisted depot.new ≡ P.unlisted depot.old }
     {
         match self.clients[j].place() {
@@ -55,6 +56,7 @@ impl<W: World, O: Origin<W>, P: Depot<W>> Scene<W, O, P> {
         ensures sound { IsSoundAtHome W.told P.Data.told W.files (P.home_data depot.new) (P.home_main depot.new) }
         ensures lent { IsLentBy (depot_of P.out P.lent P.faults depot.new) self.new.backings }
         ensures plays { Plays self.old (depot_of P.out P.lent P.faults depot.old) self.new (depot_of P.out P.lent P.faults depot.new) }
+        ensures persists { PersistsBy W.told P.Data.told W.files self.old (P.home_main depot.old) self.new (P.home_main depot.new) }
         ensures unlisted { P.unlisted depot.new ≡ P.unlisted depot.old }
     {
         self.move_on(alloc, depot, clock, j);
@@ -78,6 +80,7 @@ impl<W: World, O: Origin<W>, P: Depot<W>> Scene<W, O, P> {
         ensures sound { IsSoundAtHome W.told P.Data.told W.files (P.home_data depot.new) (P.home_main depot.new) }
         ensures lent { IsLentBy (depot_of P.out P.lent P.faults depot.new) self.new.backings }
         ensures plays { Plays self.old (depot_of P.out P.lent P.faults depot.old) self.new (depot_of P.out P.lent P.faults depot.new) }
+        ensures persists { PersistsBy W.told P.Data.told W.files self.old (P.home_main depot.old) self.new (P.home_main depot.new) }
         ensures unlisted { P.unlisted depot.new ≡ P.unlisted depot.old }
     {
         let Some(j) = find_client(&self.clients, number) else {

@@ -1,4 +1,4 @@
-use Rattle.std.proofs.Common.{subst, sym, inl, refl}
+use Rattle.std.proofs.Common.{subst, inl, refl}
 use Rattle.std.specs.Prelude.{IsTrue}
 use Rattle.pfc_store.specs.Volume.{Finds}
 use Rattle.pfc_catalog.proofs.Volumes.{sees_what_stands, kept_by, when_told}

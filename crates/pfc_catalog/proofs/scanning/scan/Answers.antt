@@ -1,7 +1,7 @@
 use Rattle.std.proofs.Common.{ℕ, List, subst, ◌∙◌, arith}
 use Rattle.std.specs.Prelude.{Contains}
 use Rattle.pfc_world.specs.Counts.{RoseBy}
-use Rattle.pfc_catalog.specs.Scan.{IsFoundAs, StaysOut, broken_in}
+use Rattle.pfc_catalog.specs.Scan.{IsFoundAs, broken_in}
 use Rattle.pfc_catalog.proofs.Volumes.{mains_fewer, kept_fewer, sound_fewer, mains_on, kept_on, stays_on, nothing_out}
 use Rattle.pfc_catalog.proofs.Scanned.{has_entry, is_listed, rose_by-earlier, list_later}
 use Rattle.pfc_catalog.proofs.scanning.scan.Goals as goal

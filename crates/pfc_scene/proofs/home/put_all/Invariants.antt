@@ -1,8 +1,10 @@
 use Rattle.std.proofs.Common.{◌≡◌, ℕ, List, length}
+use Rattle.std.specs.Prelude.{IsTrue}
 use Rattle.pfc_world.specs.Counts.{RoseBy}
 use Rattle.pfc_core.specs.View.{CoreView}
 use Rattle.pfc_actor.specs.Backings.{depot_of, IsSoundAtHome}
 use Rattle.pfc_scene.specs.Scenes.{AreBackings, IsLentBy, settled}
+use Rattle.pfc_scene.specs.Ends.{PutsFrom}
 use Rattle.pfc_scene.proofs.Homes.{AreFirst}
 use Rattle.pfc_scene.proofs.home.put_all.Given as goal
 
@@ -12,6 +14,7 @@ invariant-loop-backing g l = record {
   lent : IsLentBy (depot_of g.P.Depot.out g.P.Depot.lent g.P.Depot.faults l.depot) l.backings.items;
   first : AreFirst l.backings.items l.fn.backings.items;
   paid : (cores : List CoreView) → AreBackings cores l.fn.backings.items → (f : ℕ) → RoseBy f (settled cores l.fn.backings.items) (g.P.Depot.faults l.fn.depot) → RoseBy f (settled cores l.backings.items) (g.P.Depot.faults l.depot);
+  mains : IsTrue g.P.Data.DataDev.told → PutsFrom (length l.backings.items) l.fn.backings.items (g.P.Depot.home_main l.fn.depot) (g.P.Depot.home_main l.depot);
   unlisted : g.P.Depot.unlisted l.depot ≡ g.P.Depot.unlisted l.fn.depot;
 }
 

@@ -12,6 +12,8 @@ loop-core-preserved g c = record {
     entries_are = c.in-Ok.ensures.ok.1;
     complete = c.in-Ok.ensures.ok.3;
     settled = c.if-not-settled.ensures;
+    durables = c.keeps.ensures.durable;
+    claims = c.keeps.ensures.claimed;
     sized = let known = c.known.result.now in
         subst (λ (p : List ℕ). HasSize g.W.World.told g.W.World.files p c.in-Some.core.size) c.known.ensures.path (subst (λ (n : ℕ). HasSize g.W.World.told g.W.World.files known.path n) c.known.ensures.size known.right);
   }));

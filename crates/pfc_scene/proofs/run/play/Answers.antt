@@ -1,6 +1,7 @@
-use Rattle.std.proofs.Common.{◌∙◌, refl, sym, map}
+use Rattle.std.proofs.Common.{◌∙◌, ◌∷◌, [], refl, slice_index_or, sym, map}
 use Rattle.pfc_report.specs.Plan.{line_of}
 use Rattle.pfc_scene.specs.Scenes.{who}
+use Rattle.pfc_scene.proofs.Following.{persists_not, persists_on, step_asked}
 use Rattle.pfc_scene.proofs.Playing.{none_yet, plays_step}
 use Rattle.pfc_scene.proofs.run.play.Goals as goal
 
@@ -8,6 +9,7 @@ pub loop-step-init : goal.loop-step-init
 loop-step-init g c = record {
   sound = c.requires.sound;
   lent = c.requires.lent;
+  persists = λ told tells. persists_not _ _ _;
   paid = λ f rose. rose;
   unlisted = refl;
   asked = sym (none_yet _);
@@ -21,6 +23,7 @@ pub loop-step-preserved : goal.loop-step-preserved
 loop-step-preserved g c = record {
   sound = c.in_ok-play_step.ensures.sound;
   lent = c.in_ok-play_step.ensures.lent;
+  persists = λ told tells. persists_on _ _ _ _ _ _ _ (step_asked (line_of (slice_index_or c.steps-step-items.result.now c.loop-step.step-index _) ∷ []) _ _ c.in_ok-play_step.ensures.asked) (c.loop-step.invariant.persists told tells) (c.in_ok-play_step.ensures.persists told tells);
   paid = λ f rose. c.in_ok-play_step.ensures.paid f (c.loop-step.invariant.paid f rose);
   unlisted = c.in_ok-play_step.ensures.unlisted ∙ c.loop-step.invariant.unlisted;
   asked = plays_step line_of c.steps-step-items.result.now c.args.plan.now c.loop-step.step-index _ (map who c.args.scene.now.clients) _ _ c.steps-step-items.ensures c.loop-step-test.true c.loop-step.invariant.asked c.in_ok-play_step.ensures.asked;

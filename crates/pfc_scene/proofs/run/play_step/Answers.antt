@@ -2,6 +2,7 @@ use Rattle.std.proofs.Common.{◌∙◌, ap, sym, subst}
 use Rattle.pfc_world.specs.Counts.{RoseBy}
 use Rattle.pfc_actor.specs.Backings.{depot_of}
 use Rattle.pfc_scene.specs.Scenes.{SceneView, IsLentBy, settled}
+use Rattle.pfc_scene.proofs.Following.{each_ok, goes_persists, goes_still, moves_persists}
 use Rattle.pfc_scene.proofs.Playing.{goes_none, writes_none, syncs_none, numbers_from_who}
 use Rattle.pfc_scene.proofs.run.play_step.Goals as goal
 
@@ -43,3 +44,16 @@ returns-in-Sync-clause-asked g c = rw c.in-Sync.is (c.sync.ensures.same ∙ sym 
 
 pub returns-in-Sync-clause-numbers : goal.returns-in-Sync-clause-numbers
 returns-in-Sync-clause-numbers g c = numbers_from_who _ _ c.sync.ensures.same
+
+pub returns-in-Ask-clause-persists : goal.returns-in-Ask-clause-persists
+returns-in-Ask-clause-persists g c = each_ok c.ask.result (λ told tells. goes_persists _ _ _ _ _ (ap (λ (v : SceneView). v.block_size) c.ask.ensures.rest)
+    (goes_still _ _ (ap (λ (v : SceneView). v.cores) c.ask.ensures.rest) (ap (λ (v : SceneView). v.backings) c.ask.ensures.rest) (ap (λ (v : SceneView). v.block_size) c.ask.ensures.rest)) (λ path main home. home))
+
+pub returns-in-Go-clause-persists : goal.returns-in-Go-clause-persists
+returns-in-Go-clause-persists g c = c.go.ensures.persists
+
+pub returns-in-Write-clause-persists : goal.returns-in-Write-clause-persists
+returns-in-Write-clause-persists g c told tells = moves_persists _ _ _ _ c.write.ensures
+
+pub returns-in-Sync-clause-persists : goal.returns-in-Sync-clause-persists
+returns-in-Sync-clause-persists g c told tells = moves_persists _ _ _ _ c.sync.ensures

@@ -1,13 +1,15 @@
 use Rattle.std.proofs.Common.{◌≡◌, ◌∙◌, ◌≤◌, ℕ, length, map, reverse, rules, arith, ap, subst, sym}
-use Rattle.std.specs.Prelude.{slice_index_or, IfOk, vec_capacity}
+use Rattle.std.specs.Prelude.{IsTrue, slice_index_or, IfOk, vec_capacity}
 use Rattle.pfc_report.specs.Schedule.{asked_clients}
 use Rattle.pfc_report.specs.Spent.{rows_of, spent_by, nothing_spent}
-use Rattle.pfc_report.specs.Caused.{IsCausedReport}
+use Rattle.pfc_report.specs.Caused.{IsAccounted}
 use Rattle.pfc_world.specs.Counts.{RoseBy}
 use Rattle.pfc_writer.specs.Queue.{QueueView}
 use Rattle.pfc_actor.specs.Backings.{depot_of}
-use Rattle.pfc_scene.specs.Scenes.{SceneView, IsLentBy, settled, who, number_of}
+use Rattle.pfc_scene.specs.Scenes.{SceneView, IsLentBy, settled, who, number_of, Persists}
 use Rattle.pfc_scene.specs.Ends.{all_asked}
+use Rattle.pfc_scene.proofs.Following.{persists_on, same_asked}
+use Rattle.pfc_scene.proofs.Lasting.{caused_all}
 use Rattle.pfc_scene.proofs.Playing.{numbers_from_who}
 use Rattle.pfc_scene.proofs.Homes.{none_lent, none_paid}
 use Rattle.pfc_scene.proofs.Beginning.{numbers_of_rows, rows_of_books, in_order, fresh_in_order, are_unique, asked_rise, asked_from, as_long}
@@ -99,8 +101,13 @@ returns-in-Ok-play-clause-caused g c =
     let f = g.P.Depot.faults c.args.depot.now in
     let start : RoseBy f (settled c.new-scene.result.cores c.new-scene.result.backings) f = subst (λ (v : SceneView). RoseBy f (settled v.cores v.backings) f) (sym c.new-scene.ensures) (none_paid f) in
     let paid = c.drain.ensures.plays.paid f (c.play.ensures.paid f start) in
-    let report : ℕ → ℕ → Type 0 = λ k n. IfOk c.end.result.1 (IsCausedReport g.W.World.told g.W.World.files k n c.args.plan.now nothing_spent (spent_by (rows_of g.O.Origin.number g.O.Origin.calls g.O.Origin.faults c.end.result.0.items)) f (g.P.Depot.faults c.end.new.depot)) in
-    subst (λ (k : ℕ). report k c.args.settings.capacity) size (subst (report c.drain.new.self.block_size) room (c.end.ensures.caused c.args.plan.now f asked paid))
+    let report : ℕ → ℕ → Type 0 = λ k n. IfOk c.end.result.1 (IsAccounted g.W.World.told g.W.World.files k n c.args.plan.now nothing_spent (spent_by (rows_of g.O.Origin.number g.O.Origin.calls g.O.Origin.faults c.end.result.0.items)) f (g.P.Depot.faults c.end.new.depot)) in
+    let accounted = subst (λ (k : ℕ). report k c.args.settings.capacity) size (subst (report c.drain.new.self.block_size) room (c.end.ensures.accounted c.args.plan.now f asked paid)) in
+    let persists : IsTrue g.W.World.told → IsTrue g.P.Data.DataDev.told → Persists g.W.World.files c.new-scene.result (g.P.Depot.home_main c.args.depot.now) c.drain.new.self (g.P.Depot.home_main c.drain.new.depot) = λ told tells. persists_on g.W.World.files c.new-scene.result c.play.new.scene c.drain.new.self (g.P.Depot.home_main c.args.depot.now) (g.P.Depot.home_main c.play.new.depot) (g.P.Depot.home_main c.drain.new.depot)
+    (same_asked _ _ c.drain.ensures.plays.same) (c.in-Ok-play.ensures.persists told tells) (c.drain.ensures.persists told tells) in
+    caused_all g.W.World.told g.P.Data.DataDev.told g.W.World.files c.args.settings.block_size c.args.settings.capacity c.args.plan.now nothing_spent (spent_by (rows_of g.O.Origin.number g.O.Origin.calls g.O.Origin.faults c.end.result.0.items)) f (g.P.Depot.faults c.end.new.depot)
+    c.new-scene.result c.drain.new.self (g.P.Depot.home_main c.args.depot.now) (g.P.Depot.home_main c.drain.new.depot) (g.P.Depot.home_main c.end.new.depot) c.end.result.1 size (ap (λ (v : SceneView). v.cores) c.new-scene.ensures) asked persists
+    c.end.ensures.mains c.end.ensures.settles accounted
 
 pub returns-in-Err-clause-numbers : goal.returns-in-Err-clause-numbers
 returns-in-Err-clause-numbers g c =

@@ -7,4 +7,4 @@ returns-then-not-is_charged-clause-yes g c = λ _. allows_uncharged _ _ _ (sym c
 
 pub returns-clause-yes : goal.returns-clause-yes
 returns-clause-yes g c = λ _. rw (← c.self.view_is)
-    (allows_spent _ _ _ _ _ c.self.inside.unspent (c.self.inside.unspent - 1) (sym c.if-not-is_charged.ensures) c.if-is_bare.ensures (omega (arith, c.if-self-eq0.false)))
+    (allows_spent _ _ _ _ _ c.self.inside.unspent (c.self.inside.unspent - 1) _ _ _ (sym c.if-not-is_charged.ensures) c.if-is_bare.ensures (omega (arith, c.if-self-eq0.false)))

@@ -3,4 +3,4 @@ use Rattle.pfc_actor.proofs.backing.Backing.give.Goals as goal
 
 pub returns-clause-step : goal.returns-clause-step
 returns-clause-step g c = rw (← c.self.view_is, c.replace.ensures.after, ← c.replace-held.ensures.value)
-    (gives_or_not c.args.core.now c.given_to-next.new.core g.P.Data.DataDev.faults g.P.Info.InfoDev.faults c.self.inside.before c.self.inside.unspent c.replace-held.result c.given_to-next.result.0 c.given_to-next.result.1 c.given_to-next.ensures)
+    (gives_or_not c.args.core.now c.given_to-next.new.core g.P.Data.DataDev.faults g.P.Info.InfoDev.faults g.P.Info.InfoDev.told g.P.Info.InfoDev.seen c.self.inside.before c.self.inside.unspent c.replace-held.result c.given_to-next.result.0 c.given_to-next.result.1 c.given_to-next.ensures)

@@ -2,6 +2,7 @@ use Rattle.std.proofs.Common.{sym}
 use Rattle.pfc_world.specs.Disk.{IsImage}
 use Rattle.pfc_world.specs.Info.{IsMain}
 use Rattle.pfc_actor.proofs.BackingHomes.{at_each, sound_along, sound_away, sound_fewer, sound_less}
+use Rattle.pfc_actor.proofs.Leaving.{mains_away, mains_fewer}
 use Rattle.pfc_actor.proofs.backing.Backing.take.Goals as goal
 
 pub new-requires-after_bounds : goal.new-requires-after_bounds
@@ -33,3 +34,12 @@ returns-in-Memory-clause-stays g c = record {
   out_is = c.in-Memory.ensures.not_out;
   lent_is = at_each c.path.result.now (g.P.Depot.lent c.args.depot.now) (g.P.Depot.lent c.take.new.self) c.in-Memory.ensures.not_lent c.in-Memory.ensures.lent_elsewhere;
 }
+
+pub returns-in-Volume-clause-mains : goal.returns-in-Volume-clause-mains
+returns-in-Volume-clause-mains g c = mains_away g.P.Data.DataDev.told c.path.result.now (g.P.Depot.home_data c.args.depot.now) (g.P.Depot.home_data c.take.new.self) (g.P.Depot.home_main c.args.depot.now) (g.P.Depot.home_main c.take.new.self) c.in-Volume.ensures.away c.in-Volume.ensures.elsewhere
+
+pub returns-in-Fault-clause-mains : goal.returns-in-Fault-clause-mains
+returns-in-Fault-clause-mains g c = mains_fewer g.P.Data.DataDev.told c.path.result.now (g.P.Depot.home_data c.args.depot.now) (g.P.Depot.home_data c.take.new.self) (g.P.Depot.home_main c.args.depot.now) (g.P.Depot.home_main c.take.new.self) c.in-Fault.ensures.home
+
+pub returns-in-Memory-clause-mains : goal.returns-in-Memory-clause-mains
+returns-in-Memory-clause-mains g c = mains_fewer g.P.Data.DataDev.told c.path.result.now (g.P.Depot.home_data c.args.depot.now) (g.P.Depot.home_data c.take.new.self) (g.P.Depot.home_main c.args.depot.now) (g.P.Depot.home_main c.take.new.self) c.in-Memory.ensures.home

@@ -1,5 +1,6 @@
-use Rattle.std.proofs.Common.{List, [], ◌∷◌, ◌++◌, ap, ◌∙◌, refl, arith}
+use Rattle.std.proofs.Common.{List, [], ◌∷◌, ◌++◌, ap, ◌∙◌, refl, arith, rules}
 use Rattle.pfc_actor.specs.Backings.{BackingView}
+use Rattle.pfc_scene.proofs.Following.{asked_at}
 use Rattle.pfc_scene.proofs.Moving.{moves_from}
 use Rattle.pfc_scene.proofs.Opening.{made_moves, made_scene}
 use Rattle.pfc_scene.proofs.Unused.{at_ok, unchanged_moves}
@@ -22,4 +23,5 @@ invariant_of-self-in-Some-make_core g c =
 pub returns-in-Some-make_core : goal.returns-in-Some-make_core
 returns-in-Some-make_core g c =
     let behind = c.push_reserved.ensures.items ∙ ap (λ (bs : List BackingView). bs ++ c.bare.result ∷ []) c.reserve.ensures.items ∙ ap (λ (b : BackingView). c.self.inside.backings.items ++ b ∷ []) c.bare.ensures in
-    moves_from _ _ _ c.self.view_is (made_moves _ _ _ _ behind c.self.invariant c.in-Some-make_core.ensures.some)
+    let asked = asked_at c.self.inside.clients.items c.args.j c.index.result.now c.in-Some.wanted.now.path (search rules) c.index.ensures c.in-Some.ensures.asked in
+    moves_from _ _ _ c.self.view_is (made_moves _ _ _ _ behind c.self.invariant c.in-Some-make_core.ensures.some asked)

@@ -1,4 +1,5 @@
 use Rattle.std.proofs.Common.{◌∙◌, refl, arith, rules}
+use Rattle.pfc_scene.proofs.Following.{persists_not, persists_on, same_asked}
 use Rattle.pfc_scene.proofs.Moving.{plays_not, plays_on}
 use Rattle.pfc_scene.proofs.scene.Scene.go.Goals as goal
 
@@ -7,6 +8,7 @@ loop-step-init g c = record {
   sound = c.requires.sound;
   lent = c.requires.lent;
   plays = plays_not _ _;
+  persists = λ told tells. persists_not _ _ _;
   unlisted = refl;
   low = search rules;
 }
@@ -16,6 +18,7 @@ loop-step-preserved g c = record {
   sound = c.step.ensures.sound;
   lent = c.step.ensures.lent;
   plays = plays_on _ _ _ _ _ _ c.loop-step.invariant.plays c.step.ensures.plays;
+  persists = λ told tells. persists_on _ _ _ _ _ _ _ (same_asked _ _ c.step.ensures.plays.same) (c.loop-step.invariant.persists told tells) (c.step.ensures.persists told tells);
   unlisted = c.step.ensures.unlisted ∙ c.loop-step.invariant.unlisted;
   low = omega (arith, c.step.ensures.plays.clients_are, c.loop-step.invariant.low);
 }

@@ -21,4 +21,5 @@ invariant_of-self g c =
 pub returns : goal.returns
 returns g c =
     let low = subst (λ (v : SceneView). c.args.i < length v.cores) (sym c.self.view_is) c.requires.i in
-    owes_from _ _ _ c.self.view_is (lost_owes _ c.args.i c.index.result.now c.in_ok-core.core _ c.put_core.ensures c.self.invariant low c.index.ensures c.in_ok-core.ensures.renews c.in_ok-core.ensures.first)
+    let none = subst (λ (v : SceneView). (e : BackingView) → (slice_index_or v.backings c.args.i e).stand ≡ Bare) (sym c.self.view_is) c.requires.bare in
+    owes_from _ _ _ c.self.view_is (lost_owes _ c.args.i c.index.result.now c.in_ok-core.core _ c.put_core.ensures c.self.invariant low c.index.ensures none c.in_ok-core.ensures.renews c.in_ok-core.ensures.first)

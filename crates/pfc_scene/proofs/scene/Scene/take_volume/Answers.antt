@@ -1,6 +1,8 @@
-use Rattle.std.proofs.Common.{◌≡◌, subst, ◌∙◌, arith}
+use Rattle.std.proofs.Common.{◌≡◌, refl, subst, ◌∙◌, arith}
 use Rattle.std.specs.Prelude.{slice_index_or}
 use Rattle.pfc_scene.specs.Scenes.{SceneView, IsScene}
+use Rattle.pfc_scene.proofs.Finding.{taken_persists}
+use Rattle.pfc_scene.proofs.Following.{goes_persists, goes_still, owes_persists}
 use Rattle.pfc_scene.proofs.Moving.{counts_plays, owes_plays}
 use Rattle.pfc_scene.proofs.Opening.{is_home, lent_from, plays_to, stood_plays, taken_backs, taken_stands}
 use Rattle.pfc_scene.proofs.Volumes.{lent_stays, lent_taken}
@@ -47,3 +49,17 @@ returns-in-Err-Memory-clause-lent g c = lent_stays _ _ _ c.in-Err-Memory.ensures
 
 pub returns-in-Err-Memory-clause-plays : goal.returns-in-Err-Memory-clause-plays
 returns-in-Err-Memory-clause-plays g c = counts_plays _ _ _ (rw c.in-Err-Memory.field-0-is at c.in-Err-Memory.ensures.cause)
+
+pub returns-in-Ok-clause-persists : goal.returns-in-Ok-clause-persists
+returns-in-Ok-clause-persists g c told tells =
+    let scene = subst IsScene c.self.view_is c.self.invariant in
+    let core = subst (λ (v : SceneView). c.index.result.now ≡ slice_index_or v.cores c.args.i c.index.result.now) c.self.view_is c.index.ensures in
+    let path = c.copy.ensures.path ∙ c.known.ensures.path in
+    let sized = rw (c.known.ensures.path, c.known.ensures.size) at c.known.result.now.right told in
+    taken_persists _ _ _ c.args.i c.index.result.now _ _ _ _ _ c.stand.ensures scene c.requires.i core c.in-Ok.ensures.taken.stand_is path sized (c.in-Ok.ensures.mains tells) (c.in-Ok.ensures.found tells)
+
+pub returns-in-Err-Fault-clause-persists : goal.returns-in-Err-Fault-clause-persists
+returns-in-Err-Fault-clause-persists g c told tells = owes_persists _ _ _ _ _ c.lose_volume.ensures (c.in-Err-Fault.ensures.mains tells)
+
+pub returns-in-Err-Memory-clause-persists : goal.returns-in-Err-Memory-clause-persists
+returns-in-Err-Memory-clause-persists g c told tells = goes_persists _ _ _ _ _ refl (goes_still _ _ refl refl refl) (c.in-Err-Memory.ensures.mains tells)
