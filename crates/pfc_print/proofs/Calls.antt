@@ -2,6 +2,7 @@
 use Rattle.std.proofs.Common.{◌≡◌, ℕ, zero, suc, ◌≤◌, Bool, true, false, ◌||◌, List, [], ◌∷◌, take, codes, refl, sym, ap, subst, ◌∙◌, inl, inr, ◌⊎◌, arith}
 use Rattle.std.specs.Prelude.{IsTrue, IsSomeAnd, Some, None, Option, option_map, unwrap_or}
 use Rattle.std.specs.Borrow.{Bor}
+use Rattle.std.proofs.lemmas.List.{append-nil}
 use Rattle.std.proofs.lemmas.List.Elements.{All-tail}
 use Rattle.clap.specs.Words.{Row, all_of, fault_of, first_of, matches_of}
 use Rattle.pfc_base.specs.Cinfo.{Cinfo, IsCinfo}
@@ -9,7 +10,7 @@ use Rattle.pfc_world.specs.Files.{file_at}
 use Rattle.pfc_world.specs.Texts.{Texts}
 use Rattle.pfc_print.specs.Words.{print_command, line_of, AreTaken, is_verbose, says_true, files_in}
 use Rattle.pfc_print.specs.Text.{usage_text}
-use Rattle.pfc_print.specs.Shown.{read_limit, IsShown, AreShown, IsCut, IsPrinted, IsWhole, IsFault, IsMeant, AreCinfos, Writes, WritesFront}
+use Rattle.pfc_print.specs.Shown.{read_limit, IsShown, AreShown, IsCut, IsPart, IsPrinted, IsWhole, IsFault, IsStopped, IsMeant, AreCinfos, Writes, WritesFront}
 use Rattle.pfc_print.proofs.Fronts.{names_of, front-nothing}
 
 pub files-named : (found : Option (Bor (List (Bor (List ℕ))))) (none files : Bor (List (Bor (List ℕ)))) → files ≡ unwrap_or found none → none.now ≡ [] →
@@ -37,6 +38,15 @@ pub fault-call : (told : Bool) (texts : Texts) (words : List (List ℕ)) (verbos
     AreTaken words → verbose ≡ is_verbose words → names ≡ files_in words → Writes (IsCut told texts verbose names) sink a b → Writes (IsFault told texts words) sink a b
 fault-call told texts words verbose names sink a b taken v n (text, cut, written) =
     (text, (taken, subst (λ (w : Bool). IsCut told texts w (files_in words) text) v (subst (λ (l : List (List ℕ)). IsCut told texts verbose l text) n cut)), written)
+
+pub stopped-call : (told : Bool) (texts : Texts) (words : List (List ℕ)) (verbose : Bool) (names : List (List ℕ)) (sink : Bool) (a b : List ℕ) →
+    AreTaken words → verbose ≡ is_verbose words → names ≡ files_in words → Writes (IsPart told texts verbose names) sink a b → Writes (IsStopped told texts words) sink a b
+stopped-call told texts words verbose names sink a b taken v n (text, part, written) =
+    (text, inr (taken, subst (λ (w : Bool). IsPart told texts w (files_in words) text) v (subst (λ (l : List (List ℕ)). IsPart told texts verbose l text) n part)), written)
+
+-- nothing was written
+pub stopped-first : (told : Bool) (texts : Texts) (words : List (List ℕ)) (sink : Bool) (a : List ℕ) → Writes (IsStopped told texts words) sink a a
+stopped-first told texts words sink a = ([], inl refl, λ t. sym (append-nil a))
 
 pub front-call : (told : Bool) (texts : Texts) (words : List (List ℕ)) (verbose : Bool) (names : List (List ℕ)) (sink : Bool) (a b : List ℕ) →
     AreTaken words → verbose ≡ is_verbose words → names ≡ files_in words → WritesFront (IsPrinted told texts verbose names) sink a b → WritesFront (IsMeant told texts words) sink a b

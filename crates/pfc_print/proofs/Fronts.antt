@@ -7,7 +7,7 @@ use Rattle.std.proofs.lemmas.List.{append-nil, map-append, map_more, drop_more, 
 use Rattle.pfc_world.specs.Counts.{HasCause}
 use Rattle.pfc_world.specs.Texts.{Texts, Appends, AppendsFront}
 use Rattle.pfc_print.specs.Text.{fault_text}
-use Rattle.pfc_print.specs.Shown.{IsShown, AreShown, IsCut, IsPrinted, Writes, WritesFront}
+use Rattle.pfc_print.specs.Shown.{IsShown, AreShown, IsCut, IsPart, IsPrinted, Writes, WritesFront}
 
 -- the names behind references
 abbrev pub names_of : List (Bor (List ℕ)) → List (List ℕ)
@@ -105,6 +105,12 @@ cut-there told texts verbose files first others name d sink a m b parts (text, s
   record { before = first; name = name; others = others; parts = parts; damaged = d; shown = text; printed = shown; cut = refl },
   more-after sink a m b text (fault_text name) written line,
 )
+
+-- the first files are written, and nothing of the next
+pub part-there : (told : Bool) (texts : Texts) (verbose : Bool) (files first others : List (List ℕ)) (name : List ℕ) (d : Bool) (sink : Bool) (a m b : List ℕ) →
+    files ≡ first ++ name ∷ others → Writes (λ text. AreShown told texts verbose first text d) sink a m → b ≡ m → Writes (IsPart told texts verbose files) sink a b
+part-there told texts verbose files first others name d sink a m b parts (text, shown, written) same =
+    (text, record { before = first; name = name; others = others; parts = parts; damaged = d; shown = shown }, λ t. same ∙ written t)
 
 pub shown-next : (told : Bool) (texts : Texts) (verbose : Bool) (first longer : List (List ℕ)) (name more : List ℕ) (d e both : Bool) (sink : Bool) (a m b : List ℕ) →
     first ++ name ∷ [] ≡ longer → both ≡ (d || e) → Writes (λ text. AreShown told texts verbose first text d) sink a m → IsShown told texts verbose name more e → Appends sink m b more →

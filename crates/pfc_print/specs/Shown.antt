@@ -49,6 +49,15 @@ pub record IsCut (told : Bool) (texts : Texts) (verbose : Bool) (files : List (L
   pub printed : AreShown told texts verbose before shown damaged
   pub cut : text ≡ shown ++ fault_text name
 
+-- The text of the files before one of which nothing is written.
+pub record IsPart (told : Bool) (texts : Texts) (verbose : Bool) (files : List (List ℕ)) (text : List ℕ) : Type 0 where
+  pub before : List (List ℕ)
+  pub name : List ℕ
+  pub others : List (List ℕ)
+  pub parts : files ≡ before ++ name ∷ others
+  pub damaged : Bool
+  pub shown : AreShown told texts verbose before text damaged
+
 -- all that may be written of these files: the text of the first of them, and a line for one that could not be read
 abbrev pub IsPrinted : Bool → Texts → Bool → List (List ℕ) → List ℕ → Type 0
 IsPrinted told texts verbose files text = IsFront told texts verbose files text ⊎ IsCut told texts verbose files text
@@ -59,6 +68,10 @@ IsWhole told texts words damaged text = AreTaken words × AreShown told texts (i
 
 abbrev pub IsFault : Bool → Texts → List (List ℕ) → List ℕ → Type 0
 IsFault told texts words text = AreTaken words × IsCut told texts (is_verbose words) (files_in words) text
+
+-- nothing, or the words are taken, and this is the text of the files before one that they name
+abbrev pub IsStopped : Bool → Texts → List (List ℕ) → List ℕ → Type 0
+IsStopped told texts words text = (text ≡ []) ⊎ (AreTaken words × IsPart told texts (is_verbose words) (files_in words) text)
 
 abbrev pub IsUsage : List (List ℕ) → List ℕ → Type 0
 IsUsage words text = (¬ AreTaken words) × (text ≡ usage_text)

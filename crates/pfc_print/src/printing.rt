@@ -4,7 +4,7 @@ ghost use Rattle.pfc_world.specs.Texts.{Appends, AppendsFront};
 ghost use Rattle.pfc_world.specs.Counts.{Rose};
 ghost use Rattle.pfc_print.specs.Words.{AreTaken};
 ghost use Rattle.pfc_print.specs.Text.{fault_text, usage_text};
-ghost use Rattle.pfc_print.specs.Shown.{AreShown, IsCut, IsPrinted, IsWhole, IsFault, IsUsage, IsMeant, IsUnhindered, Writes, WritesFront};
+ghost use Rattle.pfc_print.specs.Shown.{AreShown, IsCut, IsPart, IsPrinted, IsWhole, IsFault, IsStopped, IsUsage, IsMeant, IsUnhindered, Writes, WritesFront};
 
 use crate::showing::show;
 use crate::words::{WordsRefusal, is_verbose, line_of, read_words};
@@ -53,6 +53,7 @@ fn write_fault<S: Sink>(alloc: Global, out: &mut S, name: &str) -> u8
     ensures last { (result ≡ UNREADABLE) ⊎ ((result ≡ UNWRITABLE) ⊎ (result ≡ OUT_OF_MEMORY)) }
     ensures done { result ≡ UNREADABLE → Appends S.told (S.written out.old) (S.written out.new) (fault_text name.now) }
     ensures sink { result ≡ UNWRITABLE → Rose (S.faults out.old) (S.faults out.new) }
+    ensures memory { result ≡ OUT_OF_MEMORY → S.written out.new ≡ S.written out.old }
     ensures front { AppendsFront S.told (S.written out.old) (S.written out.new) (fault_text name.now) }
 {
     let Ok(line) = fault_line(alloc, name) else {
@@ -77,7 +78,9 @@ fn print_files<H: Sources, S: Sink>(
     ensures fault { result ≡ UNREADABLE → Writes (IsCut H.told (H.texts host.old) verbose (map (λ file. file.now) files.now)) S.told (S.written out.old) (S.written out.new) }
     ensures host { result ≡ UNREADABLE → Rose (H.faults host.old) (H.faults host.new) }
     ensures sink { result ≡ UNWRITABLE → Rose (S.faults out.old) (S.faults out.new) }
+    ensures memory { result ≡ OUT_OF_MEMORY → Writes (IsPart H.told (H.texts host.old) verbose (map (λ file. file.now) files.now)) S.told (S.written out.old) (S.written out.new) }
     ensures front { WritesFront (IsPrinted H.told (H.texts host.old) verbose (map (λ file. file.now) files.now)) S.told (S.written out.old) (S.written out.new) }
+    ensures texts { H.texts host.new ≡ H.texts host.old }
     ensures last { (result ≢ NO_FORM) × (result ≤ OUT_OF_MEMORY) }
 {
     let mut damaged = false;
@@ -112,9 +115,13 @@ pub fn print<H: Sources, S: Sink>(alloc: Global, words: &[String], host: &mut H,
     ensures host { result ≡ UNREADABLE → Rose (H.faults host.old) (H.faults host.new) }
     ensures sink { result ≡ UNWRITABLE → Rose (S.faults out.old) (S.faults out.new) }
 
+    // Memory runs out while a file is left, and what was written ends behind the one before it.
+    ensures memory { result ≡ OUT_OF_MEMORY → Writes (IsStopped H.told (H.texts host.old) (map string_bytes words.now)) S.told (S.written out.old) (S.written out.new) }
+
     // Whatever it answers, a front of such a text was written.
     ensures front { WritesFront (IsMeant H.told (H.texts host.old) (map string_bytes words.now)) S.told (S.written out.old) (S.written out.new) }
     ensures last { result ≤ OUT_OF_MEMORY }
+    ensures texts { H.texts host.new ≡ H.texts host.old }
 
     // Where the host tells cinfos of all names and nothing failed, the work is done, unless memory runs out.
     ensures complete { IsUnhindered H.told (H.texts host.old) (map string_bytes words.now) (H.faults host.old) (H.faults host.new) (S.faults out.old) (S.faults out.new) → (result ≡ DONE) ⊎ (result ≡ OUT_OF_MEMORY) }

@@ -5,7 +5,7 @@ use Rattle.clap.proofs.WalkLemmas.{raw_values-rows}
 use Rattle.pfc_world.specs.Counts.{stayed-rose}
 use Rattle.pfc_print.specs.Shown.{AreCinfos}
 use Rattle.pfc_print.proofs.Fronts.{names_of}
-use Rattle.pfc_print.proofs.Calls.{files-named, as-asked, whole-call, fault-call, front-call, nothing-call, not-damaged, only-two}
+use Rattle.pfc_print.proofs.Calls.{files-named, as-asked, whole-call, fault-call, stopped-call, stopped-first, front-call, nothing-call, not-damaged, only-two}
 use Rattle.pfc_print.proofs.printing.print.Goals as goal
 
 pub returns-in_default-clause-front : goal.returns-in_default-clause-front
@@ -13,6 +13,12 @@ returns-in_default-clause-front g c = nothing-call _ _ (map string_bytes c.args.
 
 pub returns-in-Err-Memory-clause-front : goal.returns-in-Err-Memory-clause-front
 returns-in-Err-Memory-clause-front g c = nothing-call _ _ (map string_bytes c.args.words.now) _ _
+
+pub returns-in_default-clause-memory : goal.returns-in_default-clause-memory
+returns-in_default-clause-memory g c = λ is. stopped-first _ _ (map string_bytes c.args.words.now) _ _
+
+pub returns-in-Err-Memory-clause-memory : goal.returns-in-Err-Memory-clause-memory
+returns-in-Err-Memory-clause-memory g c = λ is. stopped-first _ _ (map string_bytes c.args.words.now) _ _
 
 pub returns-clause-done : goal.returns-clause-done
 returns-clause-done g c = λ is.
@@ -40,6 +46,15 @@ returns-clause-fault g c = λ is.
     let a = as-asked words (names_of c.deref.result.now) _ c.is_verbose.result (names_of c.unwrap_or-files.result.now) (ap names_of c.deref.ensures.value ∙ c.in-Ok.ensures)
     c.in-Ok-read_words.ensures.taken c.in-Ok-read_words.ensures.found c.is_verbose.ensures files in
     fault-call _ _ words c.is_verbose.result (names_of c.unwrap_or-files.result.now) _ _ _ a.0 a.1 a.2 (c.print_files.ensures.fault is)
+
+pub returns-clause-memory : goal.returns-clause-memory
+returns-clause-memory g c = λ is.
+    let words = map string_bytes c.args.words.now in
+    let files = files-named c.get_strs.result _ c.unwrap_or-files.result c.unwrap_or-files.ensures refl
+    ∙ ap (λ (o : Option (List (List ℕ))). unwrap_or o []) (c.get_strs.ensures ∙ raw_values-rows (found_of c.in-Ok-read_words.found) (codes "cinfo")) in
+    let a = as-asked words (names_of c.deref.result.now) _ c.is_verbose.result (names_of c.unwrap_or-files.result.now) (ap names_of c.deref.ensures.value ∙ c.in-Ok.ensures)
+    c.in-Ok-read_words.ensures.taken c.in-Ok-read_words.ensures.found c.is_verbose.ensures files in
+    stopped-call _ _ words c.is_verbose.result (names_of c.unwrap_or-files.result.now) _ _ _ a.0 a.1 a.2 (c.print_files.ensures.memory is)
 
 pub returns-clause-front : goal.returns-clause-front
 returns-clause-front g c =

@@ -1,7 +1,7 @@
-use Rattle.std.proofs.Common.{◌≡◌, ◌+◌, ◌||◌, [], take, drop, get_or, sym, ap, subst, ◌∙◌, arith}
+use Rattle.std.proofs.Common.{◌≡◌, ◌+◌, ◌||◌, [], take, drop, get_or, refl, sym, ap, subst, ◌∙◌, arith}
 use Rattle.pfc_world.specs.Texts.{Texts}
 use Rattle.pfc_print.specs.Shown.{IsShown}
-use Rattle.pfc_print.proofs.Fronts.{names_of, parts-at, parts-all, one-more, printed-so_far, printed-next, printed-fault, cut-there, shown-next, at_ok, count-grows}
+use Rattle.pfc_print.proofs.Fronts.{names_of, parts-at, parts-all, one-more, printed-so_far, printed-next, printed-fault, cut-there, part-there, shown-next, at_ok, count-grows}
 use Rattle.pfc_print.proofs.printing.print_files.Goals as goal
 use Rattle.pfc_print.proofs.printing.print_files.Goals.{then-damaged, else-damaged}
 
@@ -18,6 +18,20 @@ returns-in-Err-Fault-clause-front g c =
     let i = c.loop-file.file-index in
     printed-fault _ _ c.args.verbose (names_of files) (names_of (take i files)) (names_of (drop (i + 1) files)) _ c.loop-file.damaged _ _ _ _
     (parts-at files i (record { ref_ptr = (0, 0); now = [] }) c.loop-file-test.true) c.loop-file.invariant.written c.write_fault.ensures.front
+
+pub returns-in-Err-Fault-clause-memory : goal.returns-in-Err-Fault-clause-memory
+returns-in-Err-Fault-clause-memory g c = λ is.
+    let files = c.args.files.now in
+    let i = c.loop-file.file-index in
+    part-there _ _ c.args.verbose (names_of files) (names_of (take i files)) (names_of (drop (i + 1) files)) _ c.loop-file.damaged _ _ _ _
+    (parts-at files i (record { ref_ptr = (0, 0); now = [] }) c.loop-file-test.true) c.loop-file.invariant.written (c.write_fault.ensures.memory is)
+
+pub returns-in-Err-Memory-clause-memory : goal.returns-in-Err-Memory-clause-memory
+returns-in-Err-Memory-clause-memory g c = λ is.
+    let files = c.args.files.now in
+    let i = c.loop-file.file-index in
+    part-there _ _ c.args.verbose (names_of files) (names_of (take i files)) (names_of (drop (i + 1) files)) _ c.loop-file.damaged _ _ _ _
+    (parts-at files i (record { ref_ptr = (0, 0); now = [] }) c.loop-file-test.true) c.loop-file.invariant.written refl
 
 pub returns-in-Err-Memory-clause-front : goal.returns-in-Err-Memory-clause-front
 returns-in-Err-Memory-clause-front g c =
