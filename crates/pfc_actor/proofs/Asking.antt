@@ -43,7 +43,7 @@ goes_longer : (b : BookView) (line : List ℕ) (op : OpView) (given : Given) →
 goes_longer b line op given goes = record {
   number = goes.number;
   stay = goes.stay;
-  reads = record { asked = asked_longer b line (q.Read goes.number op.piece) goes.reads.asked; is_open = goes.reads.is_open; short = goes.reads.short };
+  reads = record { asked = asked_longer b line (q.Read goes.number op.pieces) goes.reads.asked; is_open = goes.reads.is_open; short = goes.reads.short };
   path_is = goes.path_is;
   size_is = goes.size_is;
   client_is = goes.client_is;
@@ -60,7 +60,7 @@ work_longer b line st.Rest going work = λ more. going
 work_longer b line (st.Wanted wanted) going work = record { asked = asked_longer b line _ work.asked; free = work.free }
 work_longer b line (st.Making wanted) going work = record { asked = asked_longer b line _ work.asked; free = work.free }
 work_longer b line (st.Joining wanted) going work = record { asked = asked_longer b line _ work.asked; free = work.free }
-work_longer b line (st.Planning number piece) going work = (work.0, record { asked = asked_longer b line _ work.1.asked; is_open = work.1.is_open; short = work.1.short })
+work_longer b line (st.Planning number pieces) going work = (work.0, record { asked = asked_longer b line _ work.1.asked; is_open = work.1.is_open; short = work.1.short })
 work_longer b line (st.Closing number) going work = (asked_longer b line _ work.0, work.1)
 work_longer b line st.Closed going work = work
 work_longer b line (st.Reading op) going work = goes_longer b line op _ work

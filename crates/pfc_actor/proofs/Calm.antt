@@ -3,7 +3,7 @@ use Rattle.std.proofs.Common.{◌≡◌, ℕ, zero, suc, ◌<◌, List, [], ◌�
 use Rattle.std.specs.Prelude.{◌==◌, if◌then◌else◌, Option, Some, None}
 use Rattle.std.proofs.lemmas.List.{append-nil}
 use Rattle.pfc_base.specs.declared.block.Part.{Part}
-use Rattle.pfc_base.specs.declared.block.Piece.{Piece}
+use Rattle.pfc_span.specs.declared.pieces.Pieces.{Pieces}
 use Rattle.pfc_log.specs.declared.entry.DropCause.{DropCause}
 use Rattle.pfc_log.specs.declared.entry.Entry.{Entry}
 use Rattle.pfc_log.specs.declared.entry.Entry.TheVariants as e
@@ -66,8 +66,8 @@ decides_all : (c c2 : CoreView) (n : ℕ) (parts : List Part) → DecidesAll c n
 decides_all c c2 n [] is = quiet_still c c2 is
 decides_all c c2 n (part ∷ parts) (d, mid, first, later) = grows_on is_quiet c.entries mid.entries c2.entries (quiet_decides c mid n part d first) (decides_all mid c2 n parts later)
 
-pub quiet_plans : (c c2 : CoreView) (n : ℕ) (piece : Piece) (op : OpView) → Plans c n piece op c2 → GrowsQuietly c.entries c2.entries
-quiet_plans c c2 n piece op plans = grows_on is_quiet c.entries plans.mid.entries c2.entries (quiet_kept c plans.mid plans.begins.rest) (decides_all plans.mid c2 n plans.decided plans.decides)
+pub quiet_plans : (c c2 : CoreView) (n : ℕ) (pieces : Pieces) (op : OpView) → Plans c n pieces op c2 → GrowsQuietly c.entries c2.entries
+quiet_plans c c2 n pieces op plans = grows_on is_quiet c.entries plans.mid.entries c2.entries (quiet_kept c plans.mid plans.begins.rest) (decides_all plans.mid c2 n plans.decided plans.decides)
 
 -- ---- an end
 
@@ -119,8 +119,8 @@ calm_entered c c2 x out enters quiet = quiet_calmly c.entries c2.entries (quiet_
 pub calm_visited : (c c2 : CoreView) (x : Entry) (out : List Mark) (a : AccessView) → c2 ≡ record (entered c x out) { access = a } → is_quiet x ≡ true → GrowsCalmly c.entries c2.entries
 calm_visited c c2 x out a enters quiet = quiet_calmly c.entries c2.entries (quiet_one c.entries c2.entries x (ap (λ (v : CoreView). v.entries) enters) quiet)
 
-pub calm_plans : (c c2 : CoreView) (n : ℕ) (piece : Piece) (op : OpView) → Plans c n piece op c2 → GrowsCalmly c.entries c2.entries
-calm_plans c c2 n piece op plans = quiet_calmly c.entries c2.entries (quiet_plans c c2 n piece op plans)
+pub calm_plans : (c c2 : CoreView) (n : ℕ) (pieces : Pieces) (op : OpView) → Plans c n pieces op c2 → GrowsCalmly c.entries c2.entries
+calm_plans c c2 n pieces op plans = quiet_calmly c.entries c2.entries (quiet_plans c c2 n pieces op plans)
 
 pub calm_ended : (c c2 : CoreView) (op : OpView) (answer : Option Served) → EndsRead c op answer c2 → GrowsCalmly c.entries c2.entries
 calm_ended c c2 op answer ended = quiet_calmly c.entries c2.entries (quiet_ended c c2 op answer ended)

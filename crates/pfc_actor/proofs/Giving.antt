@@ -3,7 +3,7 @@ use Rattle.std.proofs.Common.{◌≡◌, ℕ, ◌≤◌, List, [], ◌∷◌, �
 use Rattle.std.specs.Prelude.{◌==◌, ◌&&◌, not, if◌then◌else◌, sum_by}
 use Rattle.std.proofs.lemmas.Bool.{eqb-true}
 use Rattle.pfc_base.specs.declared.block.Part.{Part}
-use Rattle.pfc_base.specs.declared.block.Piece.{Piece}
+use Rattle.pfc_span.specs.declared.pieces.Pieces.{Pieces}
 use Rattle.pfc_log.specs.declared.entry.Entry.{Entry}
 use Rattle.pfc_log.specs.declared.entry.Entry.TheVariants as e
 use Rattle.pfc_log.specs.declared.start.Start.{Start}
@@ -86,17 +86,17 @@ decides_all : (c c2 : CoreView) (n : ℕ) (parts : List Part) → DecidesAll c n
 decides_all c c2 n [] is = gives_same c c2 (ap (λ (v : CoreView). v.out) is)
 decides_all c c2 n (part ∷ parts) (d, mid, first, later) = gives_on c mid c2 (gives_decides c mid n part d first) (decides_all mid c2 n parts later)
 
-gives_plans : (c c2 : CoreView) (n : ℕ) (piece : Piece) (op : OpView) → Plans c n piece op c2 → GivesNoJob c c2
-gives_plans c c2 n piece op plans =
+gives_plans : (c c2 : CoreView) (n : ℕ) (pieces : Pieces) (op : OpView) → Plans c n pieces op c2 → GivesNoJob c c2
+gives_plans c c2 n pieces op plans =
     gives_on c plans.mid c2 (gives_gained c plans.mid op.reading plans.begins.gains (plain_of _ op.reading plans.begins.reads.kind_is refl refl)) (decides_all plans.mid c2 n plans.decided plans.decides)
 
-pub fresh_plans : (c c2 : CoreView) (n : ℕ) (piece : Piece) (op : OpView) → Plans c n piece op c2 → sum_by (settled c2) c2.out ≤ sum_by (settled c2) c.out
-fresh_plans c c2 n piece op plans = gives_plans c c2 n piece op plans (settled c2) (settled_light c2)
+pub fresh_plans : (c c2 : CoreView) (n : ℕ) (pieces : Pieces) (op : OpView) → Plans c n pieces op c2 → sum_by (settled c2) c2.out ≤ sum_by (settled c2) c.out
+fresh_plans c c2 n pieces op plans = gives_plans c c2 n pieces op plans (settled c2) (settled_light c2)
 
 -- the tickets of a plan have the numbers of their flights
-pub numbered_plans : (c c2 : CoreView) (n : ℕ) (piece : Piece) (op : OpView) → Plans c n piece op c2 → sum_by misnumbered op.tickets ≡ 0
-numbered_plans c c2 n piece op plans =
-    let less = gives_plans c c2 n piece op plans misnumbered (λ m plain. plain.numbered) in let g = plans.gains misnumbered in omega (arith, less, g)
+pub numbered_plans : (c c2 : CoreView) (n : ℕ) (pieces : Pieces) (op : OpView) → Plans c n pieces op c2 → sum_by misnumbered op.tickets ≡ 0
+numbered_plans c c2 n pieces op plans =
+    let less = gives_plans c c2 n pieces op plans misnumbered (λ m plain. plain.numbered) in let g = plans.gains misnumbered in omega (arith, less, g)
 
 -- ---- a ticket
 
@@ -117,7 +117,7 @@ runs_next b op op2 ticket gives goes = (
   record {
     number = goes.number;
     stay = goes.stay;
-    reads = subst (λ (p : Piece). Reads b goes.number p goes.stay) (sym (ap (λ (v : OpView). v.piece) gives.rest)) goes.reads;
+    reads = subst (λ (p : Pieces). Reads b goes.number p goes.stay) (sym (ap (λ (v : OpView). v.pieces) gives.rest)) goes.reads;
     path_is = ap (λ (v : OpView). v.reading.path) gives.rest ∙ goes.path_is;
     size_is = ap (λ (v : OpView). v.reading.size) gives.rest ∙ goes.size_is;
     client_is = ap (λ (v : OpView). v.reading.client) gives.rest ∙ goes.client_is;

@@ -3,7 +3,7 @@ use Rattle.std.proofs.Common.{◌≡◌, ℕ, ◌+◌, ◌*◌, ◌≤◌, ◌<�
 use Rattle.std.specs.Prelude.{◌⊎◌, Option, Some, Ok, ◌==◌, sum_by, if◌then◌else◌, slice_get}
 use Rattle.std.proofs.lemmas.List.Sums.{sum_by_push}
 use Rattle.pfc_base.specs.declared.block.Part.{Part}
-use Rattle.pfc_base.specs.declared.block.Piece.{Piece}
+use Rattle.pfc_span.specs.declared.pieces.Pieces.{Pieces}
 use Rattle.pfc_world.specs.Counts.{Rose, RoseBy, add_count, last_count}
 use Rattle.pfc_log.specs.declared.entry.DropCause.{DropCause}
 use Rattle.pfc_log.specs.declared.entry.DropCause.TheVariants as cause
@@ -349,25 +349,25 @@ asked_more : (t : Tally) (hits waits directs : ℕ) → with_asked t hits waits 
 asked_more t hits waits directs =
     rw (none_more t.opened, none_more t.served, none_more t.hit, none_more t.missed, none_more t.bypassed, none_more t.landed, none_more t.faults, none_more t.wants) refl
 
-pub planned_step : (b : BookView) (l : LineView) (number n : ℕ) (piece : Piece) (op : OpView) (c c2 : CoreView) → Plans c n piece op c2 → n ≡ b.number → Step b l (Planning number piece) c b l (Reading op) c2
-planned_step b l number n piece op c c2 plans mine =
+pub planned_step : (b : BookView) (l : LineView) (number n : ℕ) (pieces : Pieces) (op : OpView) (c c2 : CoreView) → Plans c n pieces op c2 → n ≡ b.number → Step b l (Planning number pieces) c b l (Reading op) c2
+planned_step b l number n pieces op c c2 plans mine =
     let g : Tally = record nothing { hits = op.hits; waits = op.waits; directs = op.directs } in
-    step_on b b l l (Planning number piece) (Reading op) c c2 g refl refl refl (still c c2 c.access plans.unchanged)
+    step_on b b l l (Planning number pieces) (Reading op) c c2 g refl refl refl (still c c2 c.access plans.unchanged)
     (λ w. let s = plans.gains w in omega (arith, s))
     (record {
       mine = subst (λ (m : ℕ). tally m c2.entries ≡ together (tally m c.entries) g) mine (plans.mine ∙ asked_more (tally n c.entries) op.hits op.waits op.directs);
       others = λ m other. plans.others m (eq_sym m n (ap (λ (k : ℕ). m == k) mine ∙ other));
     })
-    (λ t old. quiet b b l l (Planning number piece) (Reading op) t (together t g) refl refl (omega arith) (omega arith) (omega arith)
-    (made l l (Planning number piece) (Reading op) t (together t g) 0 0 (omega arith) (omega (arith, plans.leaves_is)) (omega arith)) (rise t.faults 0 l.faults l.faults old.faults (omega arith) (inl (omega arith))) (omega (arith, plans.failed_is)) old)
+    (λ t old. quiet b b l l (Planning number pieces) (Reading op) t (together t g) refl refl (omega arith) (omega arith) (omega arith)
+    (made l l (Planning number pieces) (Reading op) t (together t g) 0 0 (omega arith) (omega (arith, plans.leaves_is)) (omega arith)) (rise t.faults 0 l.faults l.faults old.faults (omega arith) (inl (omega arith))) (omega (arith, plans.failed_is)) old)
     (rw (shares_here c.instance op plans.begins.reads.instance_is) (record {
       hit = omega arith;
       missed = omega arith;
       bypassed = omega arith;
     }))
     (λ i other. rw (shares_there i op (ap (λ (k : ℕ). k == i) plans.begins.reads.instance_is ∙ eq_sym i c.instance other)) (shrinks_same no_shares))
-    (quiet_plainly c.entries c2.entries (quiet_plans c c2 n piece op plans))
-    (fresh_plans c c2 n piece op plans) tt
+    (quiet_plainly c.entries c2.entries (quiet_plans c c2 n pieces op plans))
+    (fresh_plans c c2 n pieces op plans) tt
 
 -- ---- an end
 
@@ -390,14 +390,14 @@ answers_end reply t g with = record {
 }
 
 -- the read is answered
-pub ended_step : (b b2 : BookView) (l : LineView) (op : OpView) (c c2 : CoreView) (g : Tally) (number : ℕ) (reply : Reply) → IsNext b (Ok (q.Read number op.piece)) → b2 ≡ record b { replies = b.replies ++ reply ∷ [] } →
+pub ended_step : (b b2 : BookView) (l : LineView) (op : OpView) (c c2 : CoreView) (g : Tally) (number : ℕ) (reply : Reply) → IsNext b (Ok (q.Read number op.pieces)) → b2 ≡ record b { replies = b.replies ++ reply ∷ [] } →
     op.reading.instance ≡ c.instance → op.leaves ≡ 0 → c2 ≡ record c { entries = c2.entries; out = c2.out; access = c2.access } → ((w : Mark → ℕ) → sum_by w c2.out + held w op ≡ sum_by w c.out) → Gained b.number c.entries c2.entries g →
-    EndsWith reply g → op.failed ≤ lost_at (Ok (q.Read number op.piece)) reply → HasRoom (op_shares c.instance op) no_shares c.block_size g → GrowsPlainly c.entries c2.entries → Step b l (Ending op) c b2 l Rest c2
+    EndsWith reply g → op.failed ≤ lost_at (Ok (q.Read number op.pieces)) reply → HasRoom (op_shares c.instance op) no_shares c.block_size g → GrowsPlainly c.entries c2.entries → Step b l (Ending op) c b2 l Rest c2
 ended_step b b2 l op c c2 g number reply next answered here none home spends gained with fails room grows =
     step_on b b2 l l (Ending op) Rest c c2 g (ap (λ (v : BookView). v.number) answered) refl (ap (λ (v : BookView). v.asked) answered) home
     (λ w. let s = spends w in let o = ap (λ (v : BookView). open_weight w v.stays) answered in omega (arith, s, o))
     gained
-    (λ t old. told b b2 l l (Ending op) Rest t (together t g) (Ok (q.Read number op.piece)) reply (ap (λ (v : BookView). v.asked) answered) (ap (λ (v : BookView). v.replies) answered) next (answers_end reply t g with)
+    (λ t old. told b b2 l l (Ending op) Rest t (together t g) (Ok (q.Read number op.pieces)) reply (ap (λ (v : BookView). v.asked) answered) (ap (λ (v : BookView). v.replies) answered) next (answers_end reply t g with)
     (made l l (Ending op) Rest t (together t g) 0 0 (omega arith) (omega (arith, none, with.landed, with.faults, with.directs)) (omega (arith, with.wants)))
     (rise t.faults g.faults l.faults l.faults old.faults (omega arith) (inl (omega (arith, with.faults)))) (omega (arith, with.faults, with.wants, fails)) old)
     room

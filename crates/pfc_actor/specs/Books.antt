@@ -4,7 +4,7 @@ use Rattle.pfc_world.specs.Files.{Files}
 use Rattle.pfc_client.specs.declared.reply.Reply.{Reply}
 use Rattle.pfc_client.specs.declared.request.Request.{Request}
 use Rattle.pfc_client.specs.declared.request.RequestRefusal.{RequestRefusal}
-use Rattle.pfc_client.specs.Requests.{request_of}
+use Rattle.pfc_client.specs.Requests.{request_of, OpensNothing}
 use Rattle.pfc_client.specs.Session.{place_at}
 use Rattle.pfc_client.specs.Permitted.{File, Table, Walk, files_of, nothing_open}
 use Rattle.pfc_core.specs.Marks.{Mark, StayKind}
@@ -54,3 +54,9 @@ pub record IsBook (told : Bool) (files : Files) (number : ℕ) (asked : List (Li
 pub record IsNext (b : BookView) (said : Result Request RequestRefusal) : Type 0 where
   pub some : length b.replies < length b.asked
   pub is : (line : List ℕ) → slice_get b.asked (length b.replies) ≡ Some line → request_of line ≡ said
+
+-- the line that is answered next opens nothing, and memory was refused for its pieces
+pub record LacksMemory (b : BookView) : Type 0 where
+  pub said : Result Request RequestRefusal
+  pub next : IsNext b said
+  pub nothing : OpensNothing said

@@ -1,7 +1,7 @@
 -- What contracts see of the stage of a client's work.
 use Rattle.std.specs.Prelude.{ℕ}
-use Rattle.pfc_base.specs.declared.block.Piece.{Piece}
 use Rattle.pfc_base.specs.declared.block.Part.{Part}
+use Rattle.pfc_span.specs.declared.pieces.Pieces.{Pieces}
 use Rattle.pfc_core.specs.Leave.{LeaveView}
 use Rattle.pfc_core.specs.Marks.{Mark}
 use Rattle.pfc_read.specs.OpView.{OpView}
@@ -16,7 +16,7 @@ pub data StageView : Type 0 where
   Wanted : (wanted : WantedView) → StageView
   Making : (wanted : WantedView) → StageView
   Joining : (wanted : WantedView) → StageView
-  Planning : (number : ℕ) (piece : Piece) → StageView
+  Planning : (number : ℕ) (pieces : Pieces) → StageView
   Closing : (number : ℕ) → StageView
   Closed : StageView
   Reading : (op : OpView) → StageView

@@ -2,7 +2,8 @@
 use Rattle.std.specs.Prelude.{◌≡◌, ℕ, ◌+◌, ◌<◌, ◌≤◌, ◌==◌, ◌&&◌, not, true, false, List, length, Option, Some, Ok, if◌then◌else◌, sum_by}
 use Rattle.pfc_base.specs.Block.{IsPartOf}
 use Rattle.pfc_base.specs.declared.block.Part.{Part}
-use Rattle.pfc_base.specs.declared.block.Piece.{Piece}
+use Rattle.pfc_span.specs.declared.pieces.Pieces.{Pieces}
+use Rattle.pfc_span.specs.Pieces.{pieces_in, asked_of}
 use Rattle.pfc_log.specs.declared.entry.Fell.{Fell}
 use Rattle.pfc_log.specs.declared.entry.Fell.TheVariants.{Fault}
 use Rattle.pfc_client.specs.declared.request.Request.{Request}
@@ -136,10 +137,10 @@ pub record Opens (b : BookView) (number : ℕ) (path : List ℕ) : Type 0 where
   pub free : is_free b.stays number ≡ true
 
 -- a read of an open descriptor, and of no more bytes than one gives
-pub record Reads (b : BookView) (number : ℕ) (piece : Piece) (stay : Mark) : Type 0 where
-  pub asked : IsAsked b (q.Read number piece)
+pub record Reads (b : BookView) (number : ℕ) (pieces : Pieces) (stay : Mark) : Type 0 where
+  pub asked : IsAsked b (q.Read number pieces)
   pub is_open : place_at b.stays number ≡ Some stay
-  pub short : piece.len ≤ most_bytes
+  pub short : asked_of (pieces_in pieces) ≤ most_bytes
 
 -- 1 for a ticket whose number isn't its flight's
 abbrev pub misnumbered : Mark → ℕ
@@ -149,7 +150,7 @@ misnumbered m = if kind_code m.kind == kind_code TicketKind && not (m.flight == 
 pub record GoesOn (b : BookView) (op : OpView) (given : Given) : Type 0 where
   pub number : ℕ
   pub stay : Mark
-  pub reads : Reads b number op.piece stay
+  pub reads : Reads b number op.pieces stay
   pub path_is : op.reading.path ≡ stay.path
   pub size_is : op.reading.size ≡ stay.size
   pub client_is : op.reading.client ≡ b.number
@@ -167,7 +168,7 @@ AtWork b st.Rest = length b.replies < length b.asked → b.shut ≡ false
 AtWork b (st.Wanted wanted) = Opens b wanted.number wanted.path
 AtWork b (st.Making wanted) = Opens b wanted.number wanted.path
 AtWork b (st.Joining wanted) = Opens b wanted.number wanted.path
-AtWork b (st.Planning number piece) = (stay : Mark) × Reads b number piece stay
+AtWork b (st.Planning number pieces) = (stay : Mark) × Reads b number pieces stay
 AtWork b (st.Closing number) = IsAsked b (q.Close number) × ((stay : Mark) × (place_at b.stays number ≡ Some stay))
 AtWork b st.Closed = b.shut ≡ false
 AtWork b (st.Reading op) = GoesOn b op Nothing
@@ -187,7 +188,7 @@ AtWork b (st.Ending op) = GoesOn b op ToEnd × (op.leaves ≡ 0)
 abbrev pub Here : BookView → StageView → CoreView → Type 0
 Here b (st.Making wanted) c = c.path ≡ wanted.path
 Here b (st.Joining wanted) c = c.path ≡ wanted.path
-Here b (st.Planning number piece) c = (stay : Mark) → place_at b.stays number ≡ Some stay → stay.instance ≡ c.instance
+Here b (st.Planning number pieces) c = (stay : Mark) → place_at b.stays number ≡ Some stay → stay.instance ≡ c.instance
 Here b (st.Closing number) c = (stay : Mark) → place_at b.stays number ≡ Some stay → stay.instance ≡ c.instance
 Here b (st.Reading op) c = op.reading.instance ≡ c.instance
 Here b (st.Full op job capacity) c = op.reading.instance ≡ c.instance

@@ -7,7 +7,7 @@ ghost use Rattle.pfc_client.specs.declared.request.Request.TheVariants as q;
 ghost use Rattle.pfc_client.specs.Requests.{request_of};
 ghost use Rattle.pfc_client.specs.Session.{place_at, is_free};
 ghost use Rattle.pfc_client.specs.Permitted.{Permits, Table, Walk, nothing_open};
-ghost use Rattle.pfc_actor.specs.Books.{BookView, table, open_weight, IsAnswered, IsNext, IsStay};
+ghost use Rattle.pfc_actor.specs.Books.{BookView, table, open_weight, IsAnswered, IsNext, IsStay, LacksMemory};
 
 use pfc_base::Memory;
 use pfc_client::{DESCRIPTORS, Octets, Reply, Request, RequestRefusal, Session, read_request};
@@ -88,15 +88,17 @@ impl<W: World> Book<W> {
         self.number
     }
 
-    /// The request that is answered next, or why its line is none; `None` where each line has its reply.
-    pub fn request(&self) -> Option<Result<Request, RequestRefusal>>
-        ensures { MatchOption result (length self.now.asked ≤ length self.now.replies) (IsNext self.now) }
+    /// The request that is answered next, or why its line is none; `None` where each line has its reply. The pieces of a
+    /// request take memory.
+    pub fn request(&self, alloc: Global) -> Result<Option<Result<Request, RequestRefusal>>, Memory>
+        ensures ok { IfOk result (λ next. MatchOption next (length self.now.asked ≤ length self.now.replies) (IsNext self.now)) }
+        ensures memory { OnErr result (LacksMemory self.now) }
     {
         let next = self.replies.len();
         if next >= self.asked.len() {
-            return None;
+            return Ok(None);
         }
-        Some(read_request(self.asked[next].as_slice()))
+        Ok(Some(read_request(alloc, self.asked[next].as_slice())?))
     }
 
     /// Answers the request, with nothing opened or closed.

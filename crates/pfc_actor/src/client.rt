@@ -110,6 +110,7 @@ fn spend<W: World>(stage: Stage<W>) {
 
 /// The next stage, by a step on no core.
 fn next_alone<W: World, O: Origin<W>>(
+    alloc: Global,
     book: &mut Book<W>,
     line: &mut Line<W, O>,
     stage: Stage<W>,
@@ -121,7 +122,7 @@ fn next_alone<W: World, O: Origin<W>>(
     ensures step { Own book.old line.old (seen stage) book.new line.new (seen result) }
 {
     match stage {
-        Stage::Rest => take(book, line),
+        Stage::Rest => take(alloc, book, line),
         Stage::Closed => Stage::Rest,
         other => other,
     }
@@ -151,7 +152,7 @@ fn next_at<W: World, O: Origin<W>, K: Clock>(
     match stage {
         Stage::Making(wanted, _) => open(alloc, clock, book, line, core, wanted, moment),
         Stage::Joining(wanted) => open(alloc, clock, book, line, core, wanted, moment),
-        Stage::Planning(number, piece) => plan(alloc, book, line, core, number, piece),
+        Stage::Planning(number, pieces) => plan(alloc, book, line, core, number, pieces),
         Stage::Closing(number) => close(alloc, clock, book, line, core, number),
         Stage::Reading(op) => act(alloc, book, line, core, op),
         Stage::Full(op, job, capacity) => drop_full(book, line, core, op, job, capacity),
@@ -283,6 +284,8 @@ impl<W: World, O: Origin<W>> Client<W, O> {
         match &self.stage {
             Stage::Making(_, _) => true,
             Stage::Reading(op) => op.has_ticket(),
+            Stage::Landed(op, _) => op.has_ticket(),
+            Stage::Full(op, _, _) => op.has_ticket(),
             _ => false,
         }
     }
@@ -337,11 +340,11 @@ impl<W: World, O: Origin<W>> Client<W, O> {
     }
 
     /// A step on no core.
-    pub fn step_alone(&mut self)
+    pub fn step_alone(&mut self, alloc: Global)
         ensures { Own self.old.book self.old.line self.old.stage self.new.book self.new.line self.new.stage }
     {
         let stage = mem::replace(&mut self.stage, Stage::Rest);
-        let next = next_alone(&mut self.book, &mut self.line, stage);
+        let next = next_alone(alloc, &mut self.book, &mut self.line, stage);
         spend(mem::replace(&mut self.stage, next));
     }
 

@@ -10,11 +10,12 @@ ghost use Rattle.pfc_actor.specs.Steps.{IsCaused, Knows, Own, Puts, Step};
 
 use crate::book::Book;
 use crate::stage::Stage;
-use pfc_base::{Part, Piece};
-use pfc_client::{Octets, Reply};
+use pfc_base::Part;
+use pfc_client::Reply;
 use pfc_core::{FileCore, Flight, Job, Leave, Line, Pin, Strayed, Ticket};
 use pfc_log::{DropCause, Fell};
 use pfc_read::{Action, Answer, Done, ReadOp, Saw};
+use pfc_span::Pieces;
 use pfc_world::{Origin, World};
 use pfc_writer::WriteQueue;
 use std::alloc::Global;
@@ -26,19 +27,19 @@ pub(crate) fn plan<W: World, O: Origin<W>>(
     line: &Line<W, O>,
     core: &mut FileCore<W>,
     number: u64,
-    piece: Piece,
+    pieces: Pieces,
 ) -> Stage<W>
-    requires work { AtWork book.old (st.Planning number piece) }
-    requires knows { Knows book.old (st.Planning number piece) core.old }
+    requires work { AtWork book.old (st.Planning number pieces) }
+    requires knows { Knows book.old (st.Planning number pieces) core.old }
     requires here { (stay : Mark) → place_at book.old.stays number ≡ Some stay → stay.instance ≡ core.old.instance }
     requires least { 4096 ≤ core.old.block_size }
-    requires caused { IsCaused book.old line.now (st.Planning number piece) }
+    requires caused { IsCaused book.old line.now (st.Planning number pieces) }
     ensures work { AtWork book.new (seen result) }
     ensures caused { IsCaused book.new line.now (seen result) }
-    ensures step { Step book.old line.now (st.Planning number piece) core.old book.new line.now (seen result) core.new }
+    ensures step { Step book.old line.now (st.Planning number pieces) core.old book.new line.now (seen result) core.new }
     ensures calm { GrowsCalmly core.old.entries core.new.entries }
 {
-    match ReadOp::plan(alloc, core, book.number(), piece) {
+    match ReadOp::plan(alloc, core, book.number(), pieces) {
         Ok(op) => Stage::Reading(op),
         Err(_) => {
             book.reply(Reply::Memory);
@@ -168,8 +169,13 @@ fn finish<W: World, O: Origin<W>>(
 {
     op.keeps();
     match op.finish(core) {
-        Answer::Bytes { bytes, served: _ } => {
-            book.reply(Reply::Bytes(Octets::new(bytes)));
+        Answer::Bytes {
+            bytes,
+            pieces,
+            size,
+            served: _,
+        } => {
+            book.reply(Reply::of_bytes(pieces, size, bytes));
             Stage::Rest
         }
         Answer::Fetch => {

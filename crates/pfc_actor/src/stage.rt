@@ -2,9 +2,10 @@
 ghost use Rattle.std.specs.Prelude.{◌≡◌};
 ghost use Rattle.pfc_world.specs.Files.{HasSize};
 
-use pfc_base::{Part, Path, Piece};
+use pfc_base::{Part, Path};
 use pfc_core::{Job, OnDisk};
 use pfc_read::ReadOp;
+use pfc_span::Pieces;
 use pfc_world::{Known, World};
 use std::marker::Model;
 
@@ -71,7 +72,7 @@ pub enum Stage<W: World> {
     /// It found a core of its file.
     Joining(Wanted<W>),
     /// A read of an open descriptor that isn't planned yet.
-    Planning(u64, Piece),
+    Planning(u64, Pieces),
     /// A close of an open descriptor.
     Closing(u64),
     /// The file was closed.

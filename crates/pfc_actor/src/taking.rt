@@ -9,12 +9,14 @@ ghost use Rattle.pfc_actor.specs.Steps.{IsCaused, Own};
 
 use crate::book::Book;
 use crate::stage::{Stage, Wanted};
-use pfc_base::{Path, Piece};
+use pfc_base::Path;
 use pfc_client::{Reply, Request, RequestRefusal};
 use pfc_core::Line;
+use pfc_span::{Pieces, asked};
 use pfc_world::{Origin, World};
+use std::alloc::Global;
 
-/// The most bytes of one read.
+/// The most bytes of one request.
 const READ_LIMIT: u64 = 16777216;
 
 /// Answers a line that is no request.
@@ -77,9 +79,9 @@ fn see_read<W: World, O: Origin<W>>(
     book: &mut Book<W>,
     line: &Line<W, O>,
     number: u64,
-    piece: Piece,
+    pieces: Pieces,
 ) -> Stage<W>
-    requires work { IsAsked book.old (q.Read number piece) }
+    requires work { IsAsked book.old (q.Read number pieces) }
     requires caused { IsCaused book.old line.now st.Rest }
     ensures work { AtWork book.new (seen result) }
     ensures caused { IsCaused book.new line.now (seen result) }
@@ -89,11 +91,11 @@ fn see_read<W: World, O: Origin<W>>(
         book.reply(Reply::Descriptor);
         return Stage::Rest;
     }
-    if piece.len > READ_LIMIT {
+    if asked(pieces.as_slice()) > READ_LIMIT {
         book.reply(Reply::Range);
         return Stage::Rest;
     }
-    Stage::Planning(number, piece)
+    Stage::Planning(number, pieces)
 }
 
 /// Sees whether there is anything to close.
@@ -111,21 +113,29 @@ fn see_close<W: World, O: Origin<W>>(book: &mut Book<W>, line: &Line<W, O>, numb
     Stage::Closing(number)
 }
 
-/// Takes up the next request.
-pub(crate) fn take<W: World, O: Origin<W>>(book: &mut Book<W>, line: &mut Line<W, O>) -> Stage<W>
+/// Takes up the next request, or answers it for want of the memory that its pieces take.
+pub(crate) fn take<W: World, O: Origin<W>>(
+    alloc: Global,
+    book: &mut Book<W>,
+    line: &mut Line<W, O>,
+) -> Stage<W>
     requires work { AtWork book.old st.Rest }
     requires caused { IsCaused book.old line.old st.Rest }
     ensures work { AtWork book.new (seen result) }
     ensures caused { IsCaused book.new line.new (seen result) }
     ensures step { Own book.old line.old st.Rest book.new line.new (seen result) }
 {
-    let Some(request) = book.request() else {
+    let Ok(next) = book.request(alloc) else {
+        book.reply(Reply::Memory);
+        return Stage::Rest;
+    };
+    let Some(request) = next else {
         return Stage::Rest;
     };
     match request {
         Err(refusal) => refuse(book, line, refusal),
         Ok(Request::Open { number, path }) => ask_size(book, line, number, &path),
-        Ok(Request::Read { number, piece }) => see_read(book, line, number, piece),
+        Ok(Request::Read { number, pieces }) => see_read(book, line, number, pieces),
         Ok(Request::Close { number }) => see_close(book, line, number),
     }
 }

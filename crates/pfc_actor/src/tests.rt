@@ -94,7 +94,7 @@ fn answer_alone(alloc: Global) -> Result<(Place, Place, Vec<Reply>), Fail> {
     ];
     let mut client = client_of(alloc, &mut host_of(alloc, &[1])?, &lines)?;
     for _ in 0..5 {
-        client.step_alone();
+        client.step_alone(alloc);
     }
     let wants = client.place();
     client.enter(Some(0));
@@ -152,7 +152,7 @@ fn step(
 {
     core.own();
     match client.place() {
-        Place::Alone => client.step_alone(),
+        Place::Alone => client.step_alone(alloc),
         Place::Wants => client.enter(None),
         Place::Enters => {
             let Some(wanted) = client.entering() else {

@@ -27,6 +27,7 @@ plain-step told files old new request r.Memory p f m = cc
 plain-step told files old new request (r.Size size) p f m = p
 plain-step told files old new request r.Closed p f m = p
 plain-step told files old new request (r.Bytes bytes) p f m = p
+plain-step told files old new request (r.Vector parts) p f m = p
 plain-step told files old new request r.Request p f m = p
 plain-step told files old new request r.Path p f m = p
 plain-step told files old new request r.Descriptor p f m = p

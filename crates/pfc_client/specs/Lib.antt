@@ -3,3 +3,4 @@ pub mod Replies
 pub mod Requests
 pub mod Session
 pub mod Told
+pub mod Vectors

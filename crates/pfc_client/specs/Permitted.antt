@@ -1,7 +1,10 @@
 -- Which replies a client may be told: the plain ones, and what may stand in their place.
-use Rattle.std.specs.Prelude.{◌≡◌, ℕ, ◌-◌, ◌<◌, ◌≤◌, ◌⊎◌, min, Bool, true, false, List, [], ◌∷◌, length, replicate, slice_set, count_by, map, IsTrue, MatchBool, Option, Some, None, is_some, option_map, IsSomeAnd, Result, Ok, Err, ⊤}
+use Rattle.std.specs.Prelude.{◌≡◌, ℕ, ◌<◌, ◌≤◌, ◌⊎◌, Bool, true, false, List, [], ◌∷◌, length, replicate, slice_set, count_by, sum_by, map, IsTrue, MatchBool, Option, Some, None, is_some, option_map, IsSomeAnd, Result, Ok, Err, ⊤}
 use Rattle.pfc_base.specs.Block.{slice_of}
 use Rattle.pfc_base.specs.declared.block.Piece.{Piece}
+use Rattle.pfc_span.specs.declared.pieces.Pieces.{Pieces}
+use Rattle.pfc_span.specs.declared.pieces.Pieces.TheVariants as pieces
+use Rattle.pfc_span.specs.Pieces.{pieces_in, asked_of, piece_len}
 use Rattle.pfc_world.specs.Files.{Files, file_at, size_at, HasSize}
 use Rattle.pfc_world.specs.Counts.{RoseBy}
 use Rattle.pfc_client.specs.declared.request.Request.{Request}
@@ -28,14 +31,17 @@ files_of f session = map (option_map f) session
 abbrev pub nothing_open : Table
 nothing_open = replicate 16 None
 
--- how many bytes a piece has, cut at the end of the file
-abbrev pub piece_len : ℕ → Piece → ℕ
-piece_len size piece = min piece.len (size - piece.off)
-
 -- These are the bytes of the piece, cut at the end of the file. Where the world isn't told their number alone is said.
 abbrev pub IsPiece : Bool → Files → File → Piece → List ℕ → Type 0
 IsPiece told files file piece bytes =
     (length bytes ≡ piece_len file.1 piece) × (IsTrue told → IsSomeAnd (file_at files file.0) (λ all. bytes ≡ slice_of all piece.off piece.len))
+
+-- these are the bytes of each piece, in their order
+abbrev pub ArePieces : Bool → Files → File → List Piece → List (List ℕ) → Type 0
+ArePieces told files file [] [] = ⊤
+ArePieces told files file (piece ∷ list) (bytes ∷ parts) = IsPiece told files file piece bytes × ArePieces told files file list parts
+ArePieces told files file [] (bytes ∷ parts) = ⊥
+ArePieces told files file (piece ∷ list) [] = ⊥
 
 -- the most bytes of one read
 abbrev pub most_bytes : ℕ
@@ -47,11 +53,16 @@ Opens told files table number path (r.Size size) new = HasSize told files path s
 Opens told files table number path r.NoFile new = (IsTrue told → size_at files path ≡ None) × (new ≡ table)
 Opens told files table number path _ new = ⊥
 
+-- the reply with the bytes of what is asked
+abbrev pub Gives : Bool → Files → File → Pieces → Reply → Type 0
+Gives told files file (pieces.One piece) reply = (bytes : List ℕ) × IsPiece told files file piece bytes × (reply ≡ r.Bytes bytes)
+Gives told files file (pieces.Vector list) reply = (parts : List (List ℕ)) × ArePieces told files file list parts × (reply ≡ r.Vector parts)
+
 -- the plain reply to a read of what is open at a descriptor
-abbrev pub Reads : Bool → Files → Option File → Piece → Reply → Type 0
-Reads told files None piece reply = reply ≡ r.Descriptor
-Reads told files (Some file) piece reply =
-    (most_bytes < piece.len × (reply ≡ r.Range)) ⊎ (piece.len ≤ most_bytes × (bytes : List ℕ) × IsPiece told files file piece bytes × (reply ≡ r.Bytes bytes))
+abbrev pub Reads : Bool → Files → Option File → Pieces → Reply → Type 0
+Reads told files None asked reply = reply ≡ r.Descriptor
+Reads told files (Some file) asked reply =
+    (most_bytes < asked_of (pieces_in asked) × (reply ≡ r.Range)) ⊎ (asked_of (pieces_in asked) ≤ most_bytes × Gives told files file asked reply)
 
 -- the plain reply to a line, and the table after it
 abbrev pub Plain : Bool → Files → Table → Result Request RequestRefusal → Reply → Table → Type 0
@@ -59,7 +70,7 @@ Plain told files table (Err refusal.Form) reply new = (reply ≡ r.Request) × (
 Plain told files table (Err refusal.Path) reply new = (reply ≡ r.Path) × (new ≡ table)
 Plain told files table (Ok (Open number path)) reply new =
     MatchBool (is_free table number) (Opens told files table number path reply new) ((reply ≡ r.Descriptor) × (new ≡ table))
-Plain told files table (Ok (Read number piece)) reply new = Reads told files (place_at table number) piece reply × (new ≡ table)
+Plain told files table (Ok (Read number asked)) reply new = Reads told files (place_at table number) asked reply × (new ≡ table)
 Plain told files table (Ok (Close number)) reply new =
     MatchBool (is_some (place_at table number)) ((reply ≡ r.Closed) × (new ≡ slice_set table number None)) ((reply ≡ r.Descriptor) × (new ≡ table))
 
@@ -68,6 +79,7 @@ abbrev pub NeedsOrigin : Reply → Type 0
 NeedsOrigin (r.Size size) = ⊤
 NeedsOrigin r.NoFile = ⊤
 NeedsOrigin (r.Bytes bytes) = 0 < length bytes
+NeedsOrigin (r.Vector parts) = 0 < sum_by length parts
 NeedsOrigin _ = ⊥
 
 -- the plain reply, or a failed fetch in the place of one that only the origin can give, or want of memory

@@ -3,6 +3,9 @@ use Rattle.std.specs.Prelude.{ℕ, List, [], ◌∷◌, ◌++◌, length, codes}
 use Rattle.std.specs.List.{flat_map}
 use Rattle.std.specs.Fmt.{decimal}
 use Rattle.hex.specs.Hex.{encode_lower}
+use Rattle.pfc_span.specs.declared.pieces.Pieces.{Pieces}
+use Rattle.pfc_span.specs.declared.pieces.Pieces.TheVariants as pieces
+use Rattle.pfc_client.specs.Vectors.{in_pieces, vector_text}
 use Rattle.pfc_client.specs.declared.reply.Reply.{Reply}
 use Rattle.pfc_client.specs.declared.reply.Reply.TheVariants as r
 
@@ -11,10 +14,16 @@ abbrev pub bytes_text : List ℕ → List ℕ
 bytes_text [] = codes "data 0 -"
 bytes_text (b ∷ bs) = codes "data " ++ decimal (length (b ∷ bs)) ++ codes " " ++ encode_lower (b ∷ bs)
 
+-- the reply to these pieces of a file of this size that has these bytes in all
+abbrev pub reply_with : Pieces → ℕ → List ℕ → Reply
+reply_with (pieces.One piece) size bytes = r.Bytes bytes
+reply_with (pieces.Vector list) size bytes = r.Vector (in_pieces size list bytes)
+
 abbrev pub reply_text_of : Reply → List ℕ
 reply_text_of (r.Size n) = codes "ok " ++ decimal n
 reply_text_of r.Closed = codes "ok"
 reply_text_of (r.Bytes bytes) = bytes_text bytes
+reply_text_of (r.Vector parts) = vector_text parts
 reply_text_of r.Request = codes "error request"
 reply_text_of r.Path = codes "error path"
 reply_text_of r.Descriptor = codes "error descriptor"

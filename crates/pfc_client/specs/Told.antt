@@ -1,6 +1,7 @@
 -- What a client's replies say it did.
 use Rattle.std.specs.Prelude.{ℕ, Bool, true, false, List, length, count_by, sum_by, Result, Ok, if◌then◌else◌}
 use Rattle.std.specs.List.{zip}
+use Rattle.pfc_span.specs.Pieces.{pieces_in, asked_of}
 use Rattle.pfc_client.specs.declared.request.Request.{Request}
 use Rattle.pfc_client.specs.declared.request.Request.TheVariants.{Open, Read}
 use Rattle.pfc_client.specs.declared.request.RequestRefusal.{RequestRefusal}
@@ -28,7 +29,7 @@ is_lost _ = false
 
 -- the bytes asked by a read that failed
 abbrev pub lost_at : Result Request RequestRefusal → Reply → ℕ
-lost_at (Ok (Read number piece)) reply = if is_lost reply then piece.len else 0
+lost_at (Ok (Read number pieces)) reply = if is_lost reply then asked_of (pieces_in pieces) else 0
 lost_at _ reply = 0
 
 -- how often the origin was asked for a size by these lines, which were answered so
@@ -45,10 +46,12 @@ is_size _ = false
 
 abbrev pub is_data : Reply → Bool
 is_data (r.Bytes bytes) = true
+is_data (r.Vector parts) = true
 is_data _ = false
 
 abbrev pub bytes_in : Reply → ℕ
 bytes_in (r.Bytes bytes) = length bytes
+bytes_in (r.Vector parts) = sum_by length parts
 bytes_in _ = 0
 
 -- how many opens succeeded

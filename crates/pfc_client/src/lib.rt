@@ -5,8 +5,13 @@ mod laws;
 mod reply;
 mod request;
 mod session;
+mod vector;
 
 pub use laws::without_faults_replies_are_plain;
 pub use reply::{Octets, Reply, push_reply};
 pub use request::{Request, RequestRefusal, read_request};
 pub use session::{DESCRIPTORS, Session};
+pub use vector::VectorBytes;
+
+#[cfg(test)]
+mod tests;

@@ -1,8 +1,11 @@
 ghost use Rattle.std.specs.Prelude.{◌≡◌, ◌<◌, ◌≤◌, ◌*◌, ◌+◌, ◌^◌, ◌++◌, length, slice_index, OnOk};
 ghost use Rattle.hex.specs.Hex.{encode_lower, lower_digits};
-ghost use Rattle.pfc_client.specs.Replies.{reply_text_of, bytes_text};
+ghost use Rattle.pfc_span.specs.Pieces.{pieces_in, total_of};
+ghost use Rattle.pfc_client.specs.Replies.{reply_text_of, reply_with, bytes_text};
 
+use crate::vector::{VectorBytes, push_vector};
 use pfc_base::{Memory, push_number, push_word};
+use pfc_span::Pieces;
 use std::alloc::Global;
 use std::marker::Model;
 
@@ -43,6 +46,8 @@ pub enum Reply {
     Closed,
     /// The bytes of a read, cut at the file's end.
     Bytes(Octets),
+    /// The bytes of each piece of a vector read, cut at the file's end.
+    Vector(VectorBytes),
     /// The line has no request's form.
     Request,
     /// The third word of an open is no path.
@@ -57,6 +62,19 @@ pub enum Reply {
     Fetch,
     /// Memory was refused.
     Memory,
+}
+
+impl Reply {
+    /// The reply with these bytes of the pieces of a file of `size` bytes, one piece behind the other.
+    pub fn of_bytes(pieces: Pieces, size: u64, bytes: Vec<u8>) -> Reply
+        requires { length bytes.items ≡ total_of size (pieces_in pieces) }
+        ensures { result ≡ reply_with pieces size bytes.items }
+    {
+        match pieces {
+            Pieces::One(_) => Reply::Bytes(Octets::new(bytes)),
+            Pieces::Vector(list) => Reply::Vector(VectorBytes::new(list, size, bytes)),
+        }
+    }
 }
 
 /// One digit of a number below 16.
@@ -81,7 +99,7 @@ fn encode_into(bytes: &[u8], out: &mut [u8])
 }
 
 /// Appends two digits for each byte.
-fn push_hex(out: &mut Vec<u8>, bytes: &[u8]) -> Result<(), Memory>
+pub(crate) fn push_hex(out: &mut Vec<u8>, bytes: &[u8]) -> Result<(), Memory>
     ensures { OnOk result (out.new.items ≡ out.old.items ++ encode_lower bytes.now) }
 {
     let start = out.len();
@@ -121,6 +139,7 @@ pub fn push_reply(alloc: Global, out: &mut Vec<u8>, reply: &Reply) -> Result<(),
             push_number(alloc, out, *n)
         }
         Reply::Bytes(bytes) => push_bytes(alloc, out, bytes.as_slice()),
+        Reply::Vector(vector) => push_vector(alloc, out, vector),
         Reply::Closed => push_word(out, b"ok"),
         Reply::Request => push_word(out, b"error request"),
         Reply::Path => push_word(out, b"error path"),

@@ -8,7 +8,7 @@ use Rattle.std.proofs.lemmas.List.Sums.{sum_by-append, sum_by_push, sum_by-take-
 use Rattle.pfc_base.specs.Block.{IsPartOf}
 use Rattle.pfc_base.specs.declared.block.Part.{Part}
 use Rattle.pfc_log.specs.Tallies.{Tally, tally}
-use Rattle.pfc_span.specs.Tiling.{part_len, AreInRow}
+use Rattle.pfc_span.specs.Tiling.{part_len}
 use Rattle.pfc_core.specs.declared.token.Decision.{Decision}
 use Rattle.pfc_core.specs.Calls.{Decides, IsOf}
 use Rattle.pfc_core.specs.Marks.{TicketKind, Mark}
@@ -21,7 +21,7 @@ use Rattle.pfc_read.specs.declared.segment.Found.{Found}
 use Rattle.pfc_read.specs.declared.segment.Pending.{Pending}
 use Rattle.pfc_read.specs.declared.draft.Draft.{Draft}
 use Rattle.pfc_read.specs.Segments.{IsPlaced, len_in, covers, len_from, Waiting, weigh, pin_in, disk_in}
-use Rattle.pfc_read.specs.Draft.{segment_at, tickets_of, pendings_of, disks_of, owed_of, hits_of, waits_of, directs_of, waiting_in, IsAsked, IsStored, IsSent, AreAll, Asks, IsTurned, AreAsked}
+use Rattle.pfc_read.specs.Draft.{segment_at, tickets_of, pendings_of, disks_of, owed_of, hits_of, waits_of, directs_of, waiting_in, IsAsked, IsStored, IsSent, AreAll, Asks, IsTurned, StandAt, AreAsked}
 use Rattle.pfc_read.specs.Plans.{DecidesAll, with_asked}
 use Rattle.pfc_read.proofs.Decided.{IsDecided, waiting_by, source_of, decided, plain, decides-plain, tickets-again, all-again, cache_len, flight_len, origin_len}
 use Rattle.pfc_read.proofs.Turned.{All-reverse, sum_by-reverse, sum_by-map-reverse, AreTurned, weigh-turned, HasMore, weigh-more}
@@ -57,11 +57,11 @@ covered-more all i part seg before after {j = j} more at same sums was h = elim 
       omega (arith, one, sums)
 ]
 
-all-more : {W : Type 0} (v : CoreView) (n off total : ℕ) (before more after : Waiting W) → HasMore before more after → AreAll v n off total before → AreAll v n off total more → AreAll v n off total after
-all-more v n off total before more after is was all = record {
-  pendings = subst (All (IsAsked v n off total)) (sym is.pendings) (All-append (IsAsked v n off total) before.pendings more.pendings was.pendings all.pendings);
-  disks = subst (All (IsStored v n off total)) (sym is.disks) (All-append (IsStored v n off total) before.disks more.disks was.disks all.disks);
-  owed = subst (All (IsSent v n off total)) (sym is.owed) (All-append (IsSent v n off total) before.owed more.owed was.owed all.owed);
+all-more : {W : Type 0} (v : CoreView) (n : ℕ) (spot_at : ℕ → ℕ) (total : ℕ) (before more after : Waiting W) → HasMore before more after → AreAll v n spot_at total before → AreAll v n spot_at total more → AreAll v n spot_at total after
+all-more v n spot_at total before more after is was all = record {
+  pendings = subst (All (IsAsked v n spot_at total)) (sym is.pendings) (All-append (IsAsked v n spot_at total) before.pendings more.pendings was.pendings all.pendings);
+  disks = subst (All (IsStored v n spot_at total)) (sym is.disks) (All-append (IsStored v n spot_at total) before.disks more.disks was.disks all.disks);
+  owed = subst (All (IsSent v n spot_at total)) (sym is.owed) (All-append (IsSent v n spot_at total) before.owed more.owed was.owed all.owed);
 }
 
 sum-more : {X : Type 0} (w : Mark → ℕ) (f : X → Mark) (before more after : List X) → after ≡ before ++ more → sum_by w (map f after) ≡ sum_by w (map f before) + sum_by w (map f more)
@@ -86,7 +86,7 @@ asked-more {W = W} old n all i d before after mid new low inside was is =
     let has : HasMore (waiting_in before) (waiting_by x part at) (waiting_in after) = record { pendings = is.pendings; disks = is.disks; owed = is.owed } in
     let sums : (f : Segment → ℕ) → weigh f (waiting_in after) ≡ weigh f (waiting_in before) + f seg = λ f. let m = weigh-more f (waiting_in before) (waiting_by x part at) (waiting_in after) has in let o = one.weighs f in omega (arith, m, o) in
     let home = was.unchanged in
-    let placed : (off : ℕ) → AreInRow old.block_size off all → (from : Source) → IsPlaced old.size old.block_size off (sum_by part_len all) (segment_at part at from) = λ off row from. record { part_of = part_of; place = row i d low; within = omega (arith, whole, sum_more) } in
+    let placed : (spot_at : ℕ → ℕ) → StandAt old.block_size spot_at all → (from : Source) → IsPlaced old.size old.block_size spot_at (sum_by part_len all) (segment_at part at from) = λ spot_at stand from. record { part_of = part_of; place = λ x h. stand i d x low h; within = omega (arith, whole, sum_more) } in
     let pendings = long-more before.pendings.items (pendings_of x part at) after.pendings.items is.pendings in
     let disks = long-more before.disks.items (disks_of x part at) after.disks.items is.disks in
     let owed = long-more before.owed.items (owed_of x part at) after.owed.items is.owed in
@@ -94,7 +94,7 @@ asked-more {W = W} old n all i d before after mid new low inside was is =
       decides = subst (λ ps. DecidesAll old n ps new) (sym more) (decides_all-push old n (take i all) part mid new (plain x) was.decides (decides-plain mid n part x new is.decides));
       unchanged = rest-again old mid new home one.rest;
       tickets_are = subst (All (IsOf old TicketKind n)) (sym is.tickets) (All-append (IsOf old TicketKind n) before.tickets.items (tickets_of x) was.tickets_are (tickets-again old mid n part x new home is.decides));
-      waiting_are = λ off row. all-more old n off (sum_by part_len all) (waiting_in before) (waiting_by x part at) (waiting_in after) has (was.waiting_are off row) (all-again old mid n off (sum_by part_len all) part at x new home (placed off row) is.decides);
+      waiting_are = λ spot_at stand. all-more old n spot_at (sum_by part_len all) (waiting_in before) (waiting_by x part at) (waiting_in after) has (was.waiting_are spot_at stand) (all-again old mid n spot_at (sum_by part_len all) part at x new home (placed spot_at stand) is.decides);
       gains = λ w.
           let a = one.gains w in
           let b = was.gains w in
@@ -131,13 +131,13 @@ asked-turned {W = W} old n parts number before after new is was =
       decides = was.decides;
       unchanged = was.unchanged;
       tickets_are = subst (All (IsOf old TicketKind n)) (sym is.tickets) (All-reverse (IsOf old TicketKind n) before.tickets.items was.tickets_are);
-      waiting_are = λ off row.
-          let w = was.waiting_are off row in
+      waiting_are = λ spot_at stand.
+          let w = was.waiting_are spot_at stand in
           let total : ℕ = sum_by part_len parts in
           record {
-            pendings = subst (All (IsAsked old n off total)) (sym is.pendings) (All-reverse (IsAsked old n off total) before.pendings.items w.pendings);
-            disks = subst (All (IsStored old n off total)) (sym is.disks) (All-reverse (IsStored old n off total) before.disks.items w.disks);
-            owed = subst (All (IsSent old n off total)) (sym is.owed) (All-reverse (IsSent old n off total) before.owed.items w.owed);
+            pendings = subst (All (IsAsked old n spot_at total)) (sym is.pendings) (All-reverse (IsAsked old n spot_at total) before.pendings.items w.pendings);
+            disks = subst (All (IsStored old n spot_at total)) (sym is.disks) (All-reverse (IsStored old n spot_at total) before.disks.items w.disks);
+            owed = subst (All (IsSent old n spot_at total)) (sym is.owed) (All-reverse (IsSent old n spot_at total) before.owed.items w.owed);
           };
       gains = λ w.
           let g = was.gains w in

@@ -155,39 +155,39 @@ tickets-again old mid n part (d.Joined pin) new home h = All-nil (IsOf old Ticke
 tickets-again old mid n part (d.Stored disk) new home h = All-nil (IsOf old TicketKind n)
 tickets-again old mid n part (d.Fetch ticket pin) new home h = All-cons (IsOf old TicketKind n) ticket [] (of-again old mid TicketKind n ticket home h.fetches) (All-nil (IsOf old TicketKind n))
 
-abbrev IsPlacedAt : CoreView → ℕ → ℕ → Part → ℕ → Type 0
-IsPlacedAt v off total part at = (from : Source) → IsPlaced v.size v.block_size off total (segment_at part at from)
+abbrev IsPlacedAt : CoreView → (ℕ → ℕ) → ℕ → Part → ℕ → Type 0
+IsPlacedAt v spot_at total part at = (from : Source) → IsPlaced v.size v.block_size spot_at total (segment_at part at from)
 
-pin-again : {W : Type 0} (old mid : CoreView) (n off total : ℕ) (part : Part) (at : ℕ) (pin : Mark) (from : Source) → mid ≡ record old { entries = mid.entries; out = mid.out } → IsPlacedAt old off total part at → IsOf mid PinKind n pin → pin.block ≡ part.block →
-    AreAll {W = W} old n off total (record { pendings = record { pin = pin; segment = segment_at part at from } ∷ []; disks = []; owed = [] })
-pin-again {W = W} old mid n off total part at pin from home placed is block =
+pin-again : {W : Type 0} (old mid : CoreView) (n : ℕ) (spot_at : ℕ → ℕ) (total : ℕ) (part : Part) (at : ℕ) (pin : Mark) (from : Source) → mid ≡ record old { entries = mid.entries; out = mid.out } → IsPlacedAt old spot_at total part at → IsOf mid PinKind n pin → pin.block ≡ part.block →
+    AreAll {W = W} old n spot_at total (record { pendings = record { pin = pin; segment = segment_at part at from } ∷ []; disks = []; owed = [] })
+pin-again {W = W} old mid n spot_at total part at pin from home placed is block =
     let p : Pending W = record { pin = pin; segment = segment_at part at from } in
     record {
-      pendings = All-cons (IsAsked old n off total) p [] (record { pin_of = of-again old mid PinKind n pin home is; block_is = block; placed = placed from }) (All-nil (IsAsked old n off total));
-      disks = All-nil (IsStored old n off total);
-      owed = All-nil (IsSent old n off total);
+      pendings = All-cons (IsAsked old n spot_at total) p [] (record { pin_of = of-again old mid PinKind n pin home is; block_is = block; placed = placed from }) (All-nil (IsAsked old n spot_at total));
+      disks = All-nil (IsStored old n spot_at total);
+      owed = All-nil (IsSent old n spot_at total);
     }
 
-pub all-again : {W : Type 0} (old mid : CoreView) (n off total : ℕ) (part : Part) (at : ℕ) (x : Decision W) (new : CoreView) → mid ≡ record old { entries = mid.entries; out = mid.out } → IsPlacedAt old off total part at → Decides mid n part x new →
-    AreAll old n off total (waiting_by x part at)
-all-again {W = W} old mid n off total part at (d.Direct leave) new home placed h =
+pub all-again : {W : Type 0} (old mid : CoreView) (n : ℕ) (spot_at : ℕ → ℕ) (total : ℕ) (part : Part) (at : ℕ) (x : Decision W) (new : CoreView) → mid ≡ record old { entries = mid.entries; out = mid.out } → IsPlacedAt old spot_at total part at → Decides mid n part x new →
+    AreAll old n spot_at total (waiting_by x part at)
+all-again {W = W} old mid n spot_at total part at (d.Direct leave) new home placed h =
     let o : Owed W = record { leave = leave; segment = segment_at part at source.Origin } in
     let P : CoreView → LeaveView = λ v. record { client = n; path = v.path; size = v.size; block_size = v.block_size; part = part } in
     record {
-      pendings = All-nil (IsAsked old n off total);
-      disks = All-nil (IsStored old n off total);
-      owed = All-cons (IsSent old n off total) o [] (record { leave_is = h.leave_is ∙ ap P home; source_is = refl; placed = placed source.Origin }) (All-nil (IsSent old n off total));
+      pendings = All-nil (IsAsked old n spot_at total);
+      disks = All-nil (IsStored old n spot_at total);
+      owed = All-cons (IsSent old n spot_at total) o [] (record { leave_is = h.leave_is ∙ ap P home; source_is = refl; placed = placed source.Origin }) (All-nil (IsSent old n spot_at total));
     }
-all-again old mid n off total part at (d.Resident pin) new home placed h = pin-again old mid n off total part at pin source.Cache home placed h.2.pins h.2.block_is
-all-again old mid n off total part at (d.Joined pin) new home placed h = pin-again old mid n off total part at pin source.Flight home placed h.2.pins h.2.block_is
-all-again {W = W} old mid n off total part at (d.Stored disk) new home placed h =
+all-again old mid n spot_at total part at (d.Resident pin) new home placed h = pin-again old mid n spot_at total part at pin source.Cache home placed h.2.pins h.2.block_is
+all-again old mid n spot_at total part at (d.Joined pin) new home placed h = pin-again old mid n spot_at total part at pin source.Flight home placed h.2.pins h.2.block_is
+all-again {W = W} old mid n spot_at total part at (d.Stored disk) new home placed h =
     let x : Found W = record { disk = disk; segment = segment_at part at source.Cache } in
     record {
-      pendings = All-nil (IsAsked old n off total);
-      disks = All-cons (IsStored old n off total) x [] (record { disk_of = of-again old mid DiskKind n disk home h.found; block_is = h.block_is; placed = placed source.Cache }) (All-nil (IsStored old n off total));
-      owed = All-nil (IsSent old n off total);
+      pendings = All-nil (IsAsked old n spot_at total);
+      disks = All-cons (IsStored old n spot_at total) x [] (record { disk_of = of-again old mid DiskKind n disk home h.found; block_is = h.block_is; placed = placed source.Cache }) (All-nil (IsStored old n spot_at total));
+      owed = All-nil (IsSent old n spot_at total);
     }
-all-again old mid n off total part at (d.Fetch ticket pin) new home placed h = pin-again old mid n off total part at pin source.Flight home placed h.pins h.pin_block
+all-again old mid n spot_at total part at (d.Fetch ticket pin) new home placed h = pin-again old mid n spot_at total part at pin source.Flight home placed h.pins h.pin_block
 
 -- the same decision of no world
 pub plain : {W : Type 0} → Decision W → Decision (Unit {0})

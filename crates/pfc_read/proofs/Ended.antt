@@ -1,17 +1,17 @@
 -- What a read has when it ends, and what goes back to its core.
-use Rattle.std.proofs.Common.{◌≡◌, ◌==◌, ◌+◌, ◌-◌, ◌<◌, ◌≤◌, ℕ, Bool, true, false, if◌then◌else◌, List, [], ◌∷◌, ◌++◌, length, drop, map, min, reverse, get_or, refl, sym, ap, ◌∙◌, arith, subst, Option, Some, None, inl, inr, append-nil, add-zero, eq-eqb, length-take, length-drop}
+use Rattle.std.proofs.Common.{◌≡◌, ◌==◌, ◌+◌, ◌<◌, ◌≤◌, ℕ, Bool, true, false, if◌then◌else◌, List, [], ◌∷◌, ◌++◌, length, map, reverse, refl, sym, ap, ◌∙◌, arith, subst, Option, Some, None, inl, inr, append-nil, add-zero, eq-eqb}
 use Rattle.std.specs.Prelude.{sum_by, All, IsSomeAnd, option_map}
 use Rattle.std.proofs.lemmas.Bool.{cases_eq}
-use Rattle.std.proofs.lemmas.List.{ext_get_or, get_or-take, get_or-drop}
 use Rattle.std.proofs.lemmas.List.Elements.{All-head, All-tail, All-append, All-map, All-weaker}
 use Rattle.std.proofs.lemmas.List.Sums.{sum_by-append, sum_by-cons}
-use Rattle.pfc_base.specs.Block.{slice_of}
 use Rattle.pfc_log.specs.declared.entry.Entry.{Entry}
 use Rattle.pfc_log.specs.declared.entry.Entry.TheVariants as e
 use Rattle.pfc_log.specs.declared.entry.Served.{Served}
 use Rattle.pfc_log.specs.Tallies.{tally}
 use Rattle.pfc_log.proofs.Tallied.{tally_more, tally_same}
 use Rattle.pfc_world.specs.Files.{Files, file_at}
+use Rattle.pfc_span.specs.Pieces.{pieces_in}
+use Rattle.pfc_span.proofs.Spots.{bytes-of_spots}
 use Rattle.pfc_core.specs.Calls.{Unpins}
 use Rattle.pfc_core.specs.Disks.{EndsDisk}
 use Rattle.pfc_core.specs.Finishes.{Releases, ReleasesAll, ReleasesDisk, ReleasesDisks, served_entries, Ends, Finishes}
@@ -30,7 +30,7 @@ use Rattle.pfc_read.specs.OpView.{ToEnd, OpView}
 use Rattle.pfc_read.specs.Segments.{covers, len_in, len_from, pin_in, disk_in, in_pending, in_found, in_owed}
 use Rattle.pfc_read.specs.Steps.{IsTokenOf}
 use Rattle.pfc_read.specs.Ends.{IsData, with_served, Knows, GivesBack, EndsRead}
-use Rattle.pfc_read.specs.Kept.{given_of, weight_in, waiting_of, view_of, IsKept, IsFit, IsFound}
+use Rattle.pfc_read.specs.Kept.{given_of, weight_in, spots_of, waiting_of, view_of, IsKept, IsFit, IsFound}
 use Rattle.pfc_read.proofs.Turned.{sum_by-map-reverse}
 
 sees_self : (m : Mark) → sees m m ≡ 1
@@ -169,15 +169,6 @@ some-and (Some file) size P sized all = all file refl
 size-some : (o : Option (List ℕ)) (size : ℕ) (file : List ℕ) → option_map length o ≡ Some size → o ≡ Some file → length file ≡ size
 size-some o size file sized is = let s : Some (length file) ≡ Some size = ap (option_map length) (sym is) ∙ sized in cc
 
--- bytes that agree everywhere with a file are its slice
-slice-agrees : (file bytes : List ℕ) (off len size : ℕ) → length file ≡ size → length bytes ≡ min len (size - off) → ((j : ℕ) → j < length bytes → get_or bytes j 0 ≡ get_or file (off + j) 0) → bytes ≡ slice_of file off len
-slice-agrees file bytes off len size whole long agrees =
-    let t = length-take len (drop off file) in
-    let d = length-drop off file in
-    ext_get_or 0 bytes (slice_of file off len) (omega (arith, t, d, whole, long)) (λ i low.
-    let lower : i < len = omega (arith, low, long) in
-    agrees i low ∙ sym (get_or-take len (drop off file) i 0 lower ∙ get_or-drop off file i 0))
-
 -- the reply of a read that ended unhurt
 pub data-of : {W : Type 0} (told : Bool) (files : Files) (s : Inside W) → given_of s.hand ≡ ToEnd → s.met ≡ None → IsKept told files s → IsData told files (view_of s) s.bytes.items s.served
 data-of {W = W} told files s ended unhurt kept =
@@ -192,7 +183,7 @@ data-of {W = W} told files s ended unhurt kept =
     record {
       long = was.sound.long;
       right = λ t. some-and (file_at files s.reading.path) s.reading.size _ (was.sound.sized t) (λ file at.
-          slice-agrees file s.bytes.items s.piece.off s.piece.len s.reading.size (size-some _ _ file (was.sound.sized t) at) was.sound.long
+          bytes-of_spots file s.reading.size (pieces_in s.pieces) s.bytes.items (size-some _ _ file (was.sound.sized t) at) was.sound.long
           (λ j low. was.sound.agrees t unhurt file at j low (zero (covers j))));
       sum = let w = was.counted.whole unhurt in let z = zero len_in in omega (arith, w, z);
       hit = let h = was.counted.hit in omega (arith, h);
@@ -201,18 +192,18 @@ data-of {W = W} told files s ended unhurt kept =
     }
 
 -- all pins of a read are its own
-pub pins-own : {W : Type 0} (r : Mark) (off total : ℕ) (pendings : List (Pending W)) (pins : List Mark) → All (IsFit r off total) pendings → All (IsTokenOf r PinKind) pins → All (IsTokenOf r PinKind) (map pin_in pendings ++ pins)
-pins-own r off total pendings pins fits own = All-append (IsTokenOf r PinKind) (map pin_in pendings) pins
-    (All-map (IsTokenOf r PinKind) pin_in pendings (All-weaker (IsFit r off total) (λ p. IsTokenOf r PinKind (pin_in p)) (λ p h. h.pin_for.token) pendings fits)) own
+pub pins-own : {W : Type 0} (r : Mark) (spot_at : ℕ → ℕ) (total : ℕ) (pendings : List (Pending W)) (pins : List Mark) → All (IsFit r spot_at total) pendings → All (IsTokenOf r PinKind) pins → All (IsTokenOf r PinKind) (map pin_in pendings ++ pins)
+pins-own r spot_at total pendings pins fits own = All-append (IsTokenOf r PinKind) (map pin_in pendings) pins
+    (All-map (IsTokenOf r PinKind) pin_in pendings (All-weaker (IsFit r spot_at total) (λ p. IsTokenOf r PinKind (pin_in p)) (λ p h. h.pin_for.token) pendings fits)) own
 
-pub disks-own : {W : Type 0} (r : Mark) (off total : ℕ) (disks : List (Found W)) → All (IsFound r off total) disks → All (IsTokenOf r DiskKind) (map disk_in disks)
-disks-own r off total disks found = All-map (IsTokenOf r DiskKind) disk_in disks (All-weaker (IsFound r off total) (λ x. IsTokenOf r DiskKind (disk_in x)) (λ x h. h.disk_for.token) disks found)
+pub disks-own : {W : Type 0} (r : Mark) (spot_at : ℕ → ℕ) (total : ℕ) (disks : List (Found W)) → All (IsFound r spot_at total) disks → All (IsTokenOf r DiskKind) (map disk_in disks)
+disks-own r spot_at total disks found = All-map (IsTokenOf r DiskKind) disk_in disks (All-weaker (IsFound r spot_at total) (λ x. IsTokenOf r DiskKind (disk_in x)) (λ x h. h.disk_for.token) disks found)
 
 pub ends-op : {W : Type 0} (told : Bool) (files : Files) (s : Inside W) → given_of s.hand ≡ ToEnd → (old : CoreView) (pins disks : List Mark) (served : Option Served) (new : CoreView) → pins ≡ s.pins.items ++ map pin_in (reverse s.pendings.items) →
     disks ≡ s.unread.items ++ map disk_in (reverse s.disks.items) → IsKept told files s → GivesBack old s.reading pins disks served new → EndsRead old (view_of s) served new
 ends-op {W = W} told files s ended old pins disks served new is also kept back =
     let was = subst (λ h. IsKept told files (record s { hand = h })) (hand-end s.hand ended) kept in
-    let off = s.piece.off in
+    let spot_at : ℕ → ℕ = spots_of s in
     let total : ℕ = length s.bytes.items in
-    ends-read old (view_of s) pins disks served new was.staged.stands.0 (pins-own s.reading off total s.pendings.items s.pins.items kept.own.pendings_are kept.own.pins_are) (disks-own s.reading off total s.disks.items kept.own.disks_are)
+    ends-read old (view_of s) pins disks served new was.staged.stands.0 (pins-own s.reading spot_at total s.pendings.items s.pins.items kept.own.pendings_are kept.own.pins_are) (disks-own s.reading spot_at total s.disks.items kept.own.disks_are)
     (λ w. gathered w s.pendings.items s.pins.items pins is) (λ w. gathered-disks w s.disks.items s.unread.items disks kept.roomy.none also) back

@@ -1,10 +1,11 @@
 -- What becomes of the part that is given out.
-use Rattle.std.proofs.Common.{◌≡◌, ◌+◌, ◌*◌, ◌≤◌, ℕ, Bool, List, length, refl, ap, ◌∙◌, arith, subst, Option, Some, None}
-use Rattle.pfc_base.specs.declared.block.Piece.{Piece}
+use Rattle.std.proofs.Common.{◌≡◌, ◌+◌, ◌*◌, ◌≤◌, ℕ, Bool, List, length, refl, ap, ◌∙◌, arith, Option, Some, None}
 use Rattle.pfc_log.specs.declared.entry.Fell.{Fell}
 use Rattle.pfc_log.specs.declared.entry.Fell.TheVariants.{Fault, Memory}
 use Rattle.pfc_log.specs.declared.entry.Served.{Served}
 use Rattle.pfc_world.specs.Files.{Files, Holds}
+use Rattle.pfc_span.specs.declared.pieces.Pieces.{Pieces}
+use Rattle.pfc_span.specs.Pieces.{pieces_in, spot}
 use Rattle.pfc_core.specs.Marks.{Mark}
 use Rattle.pfc_read.specs.declared.segment.Source.{Source}
 use Rattle.pfc_read.specs.declared.segment.Source.TheVariants as source
@@ -78,8 +79,8 @@ counted-lacking k total tickets w h counts served met now hurt was = record {
   directs = let w = was.directs in omega (arith, w);
 }
 
-part-most : (size k off total : ℕ) (s : Segment) → IsPlaced size k off total s → s.part.len ≤ k
-part-most size k off total s is = let w = is.part_of.within in omega (arith, w)
+part-most : (size k : ℕ) (spot_at : ℕ → ℕ) (total : ℕ) (s : Segment) → IsPlaced size k spot_at total s → s.part.len ≤ k
+part-most size k spot_at total s is = let w = is.part_of.within in omega (arith, w)
 
 -- the part that is given out waits for a direct read, in whichever list
 pub record IsPutOff {W : Type 0} (before after : Waiting W) (s : Segment) : Type 0 where
@@ -87,11 +88,11 @@ pub record IsPutOff {W : Type 0} (before after : Waiting W) (s : Segment) : Type
   pub pendings : length after.pendings ≡ length before.pendings
   pub disks : length after.disks ≡ length before.disks
 
-pub counted-owed : {W : Type 0} (size k off total : ℕ) (tickets : List Mark) (before after : Waiting W) (h : Hand) (counts : Counts) (served : Served) (met : Option Fell) (s : Segment) → IsPlaced size k off total s → IsGiven h s → is_open h ≡ 1 →
+pub counted-owed : {W : Type 0} (size k : ℕ) (spot_at : ℕ → ℕ) (total : ℕ) (tickets : List Mark) (before after : Waiting W) (h : Hand) (counts : Counts) (served : Served) (met : Option Fell) (s : Segment) → IsPlaced size k spot_at total s → IsGiven h s → is_open h ≡ 1 →
     IsPutOff before after s → AreCounted k total tickets before h counts served met → AreCounted k total tickets after hand.Nothing (record counts { directs = counts.directs + 1 }) served met
-counted-owed {W = W} size k off total tickets before after h counts served met s placed is opened put was =
+counted-owed {W = W} size k spot_at total tickets before after h counts served met s placed is opened put was =
     let n : ℕ = s.part.len in
-    let most = part-most size k off total s placed in
+    let most = part-most size k spot_at total s placed in
     let len = is.each len_in in
     let cache = is.each (len_from source.Cache) in
     let flight = is.each (len_from source.Flight) in
@@ -115,34 +116,35 @@ counted-owed {W = W} size k off total tickets before after h counts served met s
       directs = let w = was.directs in omega (arith, w, opened, pendings, disks);
     }
 
-pub sound-written : {W : Type 0} (told : Bool) (files : Files) (reading : Mark) (piece : Piece) (bytes new into : List ℕ) (before after : Waiting W) (h hand : Hand) (met : Option Fell) (s : Segment) → IsWritten bytes s.at into new → length into ≡ s.part.len →
-    ((j : ℕ) → covers j s ≤ weight_in (covers j) after hand) → ((j : ℕ) → weight_in (covers j) after hand ≡ weight_in (covers j) before h) → IsSound told files reading piece bytes before h met → IsSound told files reading piece new after hand met
-sound-written {W = W} told files reading piece bytes new into before after h hand met s w long own same was = record {
+pub sound-written : {W : Type 0} (told : Bool) (files : Files) (reading : Mark) (pieces : Pieces) (bytes new into : List ℕ) (before after : Waiting W) (h hand : Hand) (met : Option Fell) (s : Segment) → IsWritten bytes s.at into new → length into ≡ s.part.len →
+    ((j : ℕ) → covers j s ≤ weight_in (covers j) after hand) → ((j : ℕ) → weight_in (covers j) after hand ≡ weight_in (covers j) before h) → IsSound told files reading pieces bytes before h met → IsSound told files reading pieces new after hand met
+sound-written {W = W} told files reading pieces bytes new into before after h hand met s w long own same was = record {
   short = was.short;
   least = was.least;
   most = was.most;
   sized = was.sized;
   long = w.long ∙ was.long;
-  agrees = λ t none file at. agrees-written file piece.off bytes new into s (λ j. weight_in (covers j) before h) (λ j. weight_in (covers j) after hand) w long own same (was.agrees t none file at);
+  agrees = λ t none file at. agrees-written file (spot reading.size (pieces_in pieces)) bytes new into s (λ j. weight_in (covers j) before h) (λ j. weight_in (covers j) after hand) w long own same (was.agrees t none file at);
 }
 
-pub sound-filled : {W : Type 0} (told : Bool) (files : Files) (reading : Mark) (piece : Piece) (total : ℕ) (bytes new into : List ℕ) (w : Waiting W) (h : Hand) (met : Option Fell) (s : Segment) → IsGiven h s →
-    IsPlaced reading.size reading.block_size piece.off total s → IsWritten bytes s.at into new → length into ≡ s.part.len → Holds told files reading.path (s.part.block * reading.block_size + s.part.from) into →
-    IsSound told files reading piece bytes w h met → IsSound told files reading piece new w hand.Nothing met
-sound-filled {W = W} told files reading piece total bytes new into w h met s is placed wrote long holds was = record {
+pub sound-filled : {W : Type 0} (told : Bool) (files : Files) (reading : Mark) (pieces : Pieces) (total : ℕ) (bytes new into : List ℕ) (w : Waiting W) (h : Hand) (met : Option Fell) (s : Segment) → IsGiven h s →
+    IsPlaced reading.size reading.block_size (spot reading.size (pieces_in pieces)) total s → IsWritten bytes s.at into new → length into ≡ s.part.len → Holds told files reading.path (s.part.block * reading.block_size + s.part.from) into →
+    IsSound told files reading pieces bytes w h met → IsSound told files reading pieces new w hand.Nothing met
+sound-filled {W = W} told files reading pieces total bytes new into w h met s is placed wrote long holds was = record {
   short = was.short;
   least = was.least;
   most = was.most;
   sized = was.sized;
   long = wrote.long ∙ was.long;
-  agrees = λ t none file at. agrees-filled file piece.off bytes new into s (λ j. weight_in (covers j) w h) (λ j. weight_in (covers j) w hand.Nothing) wrote long
-      (slice-held told files reading.path (piece.off + s.at) into file (subst (λ p. Holds told files reading.path p into) placed.place holds) t at)
-      (λ j. let e = is.each (covers j) in omega (arith, e)) (was.agrees t none file at);
+  agrees = λ t none file at.
+      let from : ℕ = s.part.block * reading.block_size + s.part.from in
+      agrees-filled file (spot reading.size (pieces_in pieces)) bytes new into s from (λ j. weight_in (covers j) w h) (λ j. weight_in (covers j) w hand.Nothing) wrote long
+      (slice-held told files reading.path from into file holds t at) placed.place (λ j. let e = is.each (covers j) in omega (arith, e)) (was.agrees t none file at);
 }
 
-pub sound-lacking : {W : Type 0} (told : Bool) (files : Files) (reading : Mark) (piece : Piece) (bytes new into : List ℕ) (at : ℕ) (w : Waiting W) (h : Hand) (met now : Option Fell) →
-    IsWritten bytes at into new → (now ≡ None → ⊥) → IsSound told files reading piece bytes w h met → IsSound told files reading piece new w hand.Nothing now
-sound-lacking told files reading piece bytes new into at w h met now wrote hurt was = record {
+pub sound-lacking : {W : Type 0} (told : Bool) (files : Files) (reading : Mark) (pieces : Pieces) (bytes new into : List ℕ) (at : ℕ) (w : Waiting W) (h : Hand) (met now : Option Fell) →
+    IsWritten bytes at into new → (now ≡ None → ⊥) → IsSound told files reading pieces bytes w h met → IsSound told files reading pieces new w hand.Nothing now
+sound-lacking told files reading pieces bytes new into at w h met now wrote hurt was = record {
   short = was.short;
   least = was.least;
   most = was.most;

@@ -16,7 +16,7 @@ use Rattle.pfc_read.specs.declared.op.ReadOp.TheInside.{Inside}
 use Rattle.pfc_read.specs.OpView.{Nothing}
 use Rattle.pfc_read.specs.Segments.{in_pending, in_found, in_owed, pin_in, disk_in}
 use Rattle.pfc_read.specs.Steps.{IsTokenOf}
-use Rattle.pfc_read.specs.Kept.{given_of, waiting_of, IsFit, IsFound, IsOwed, IsKept}
+use Rattle.pfc_read.specs.Kept.{given_of, spots_of, waiting_of, IsFit, IsFound, IsOwed, IsKept}
 use Rattle.pfc_world.specs.Files.{Files}
 use Rattle.pfc_read.proofs.Weights.{SameParts, counted-same, sound-same}
 
@@ -50,6 +50,7 @@ kept-run {W = W} told files s rest ticket idle e kept =
         own = record { tickets_are = split.0; pins_are = was.own.pins_are; pendings_are = was.own.pendings_are; disks_are = was.own.disks_are; owed_are = was.own.owed_are; hand_is = tt };
         counted = counted-same _ _ s.tickets.items rest.items (waiting_of s) (waiting_of s) hand.Nothing hand.Ticket s.counts _ _ same (let f = was.counted.flights in omega (arith, f, long)) was.counted.directs was.counted;
         sound = sound-same _ _ _ _ _ (waiting_of s) (waiting_of s) hand.Nothing hand.Ticket _ same was.sound;
+        size_is = was.size_is;
         staged = record { hurt = was.staged.hurt; fetch = was.staged.fetch; stands = tt };
         roomy = record { back = was.roomy.back; on = was.roomy.on; late = was.roomy.late; none = was.roomy.none; unread = was.roomy.unread };
       },
@@ -65,16 +66,17 @@ kept-flown {W = W} told files s rest e was =
       own = record { tickets_are = subst (All (IsTokenOf s.reading TicketKind)) tickets was.own.tickets_are; pins_are = was.own.pins_are; pendings_are = was.own.pendings_are; disks_are = was.own.disks_are; owed_are = was.own.owed_are; hand_is = was.own.hand_is };
       counted = counted-same _ _ s.tickets.items rest.items (waiting_of s) (waiting_of s) s.hand s.hand s.counts _ _ same (let f = was.counted.flights in let l = ap length tickets in omega (arith, f, l)) was.counted.directs was.counted;
       sound = was.sound;
+      size_is = was.size_is;
       staged = record { hurt = was.staged.hurt; fetch = was.staged.fetch; stands = subst (λ ts. Rattle.pfc_read.specs.Kept.Stands ts (waiting_of s) s.counts.failed s.hand) tickets was.staged.stands };
       roomy = record { back = was.roomy.back; on = was.roomy.on; late = was.roomy.late; none = was.roomy.none; unread = was.roomy.unread };
     }
 
 -- a leave is given out
 pub kept-fill : {W : Type 0} (told : Bool) (files : Files) (s : Inside W) (left : Vec (Owed W) Global) (owed : Owed W) → given_of s.hand ≡ Nothing → s.owed.items ≡ left.items ++ owed ∷ [] → vec_capacity left ≡ vec_capacity s.owed → IsKept told files s →
-    IsKept told files (record s { owed = left; hand = hand.Leave owed.segment }) × IsOwed s.reading s.piece.off (length s.bytes.items) owed
+    IsKept told files (record s { owed = left; hand = hand.Leave owed.segment }) × IsOwed s.reading (spots_of s) (length s.bytes.items) owed
 kept-fill {W = W} told files s left owed idle last room kept =
     let was = idle-kept told files s idle kept in
-    let P : Owed W → Type 0 = IsOwed s.reading s.piece.off (length s.bytes.items) in
+    let P : Owed W → Type 0 = IsOwed s.reading (spots_of s) (length s.bytes.items) in
     let split = All-pop P s.owed.items left.items (Some owed) last was.own.owed_are in
     let long = last-long s.owed.items left.items owed last in
     let after : Inside W = record s { owed = left; hand = hand.Leave owed.segment } in
@@ -85,6 +87,7 @@ kept-fill {W = W} told files s left owed idle last room kept =
         own = record { tickets_are = was.own.tickets_are; pins_are = was.own.pins_are; pendings_are = was.own.pendings_are; disks_are = was.own.disks_are; owed_are = split.0; hand_is = (split.1.placed, split.1.source_is) };
         counted = counted-same _ _ s.tickets.items s.tickets.items (waiting_of s) (waiting_of after) hand.Nothing (hand.Leave owed.segment) s.counts _ _ same was.counted.flights was.counted.directs was.counted;
         sound = sound-same _ _ _ _ _ (waiting_of s) (waiting_of after) hand.Nothing (hand.Leave owed.segment) _ same was.sound;
+        size_is = was.size_is;
         staged = record { hurt = was.staged.hurt; fetch = was.staged.fetch; stands = tt };
         roomy = record { back = was.roomy.back; on = was.roomy.on; late = let l = was.roomy.late in omega (arith, l, long, room); none = was.roomy.none; unread = was.roomy.unread };
       },
@@ -93,10 +96,10 @@ kept-fill {W = W} told files s left owed idle last room kept =
 
 -- a pin is given out
 pub kept-look : {W : Type 0} (told : Bool) (files : Files) (s : Inside W) (left : Vec (Pending W) Global) (p : Pending W) → given_of s.hand ≡ Nothing → s.pendings.items ≡ left.items ++ p ∷ [] → vec_capacity left ≡ vec_capacity s.pendings → IsKept told files s →
-    IsKept told files (record s { pendings = left; hand = hand.Pin p.segment }) × IsFit s.reading s.piece.off (length s.bytes.items) p
+    IsKept told files (record s { pendings = left; hand = hand.Pin p.segment }) × IsFit s.reading (spots_of s) (length s.bytes.items) p
 kept-look {W = W} told files s left p idle last room kept =
     let was = idle-kept told files s idle kept in
-    let split = All-pop (IsFit s.reading s.piece.off (length s.bytes.items)) s.pendings.items left.items (Some p) last was.own.pendings_are in
+    let split = All-pop (IsFit s.reading (spots_of s) (length s.bytes.items)) s.pendings.items left.items (Some p) last was.own.pendings_are in
     let long = last-long s.pendings.items left.items p last in
     let after : Inside W = record s { pendings = left; hand = hand.Pin p.segment } in
     let same : SameParts (waiting_of s) (waiting_of after) hand.Nothing (hand.Pin p.segment) = record {
@@ -106,6 +109,7 @@ kept-look {W = W} told files s left p idle last room kept =
         own = record { tickets_are = was.own.tickets_are; pins_are = was.own.pins_are; pendings_are = split.0; disks_are = was.own.disks_are; owed_are = was.own.owed_are; hand_is = split.1.placed };
         counted = counted-same _ _ s.tickets.items s.tickets.items (waiting_of s) (waiting_of after) hand.Nothing (hand.Pin p.segment) s.counts _ _ same was.counted.flights (let d = was.counted.directs in omega (arith, d, long)) was.counted;
         sound = sound-same _ _ _ _ _ (waiting_of s) (waiting_of after) hand.Nothing (hand.Pin p.segment) _ same was.sound;
+        size_is = was.size_is;
         staged = record { hurt = was.staged.hurt; fetch = was.staged.fetch; stands = tt };
         roomy = record { back = let b = was.roomy.back in omega (arith, b, long, room); on = let o = was.roomy.on in omega (arith, o, long); late = let l = was.roomy.late in omega (arith, l, long); none = was.roomy.none; unread = was.roomy.unread };
       },
@@ -122,19 +126,20 @@ kept-looked {W = W} told files s left e room idle kept =
     let after : Inside W = record s { pendings = left; hand = hand.Nothing } in
     let same : SameParts (waiting_of s) (waiting_of after) hand.Nothing hand.Nothing = record { each = λ f. let l = ap (sum_by (in_pending f)) pendings in omega (arith, l) } in
     record {
-      own = record { tickets_are = was.own.tickets_are; pins_are = was.own.pins_are; pendings_are = subst (All (IsFit s.reading s.piece.off (length s.bytes.items))) pendings was.own.pendings_are; disks_are = was.own.disks_are; owed_are = was.own.owed_are; hand_is = tt };
+      own = record { tickets_are = was.own.tickets_are; pins_are = was.own.pins_are; pendings_are = subst (All (IsFit s.reading (spots_of s) (length s.bytes.items))) pendings was.own.pendings_are; disks_are = was.own.disks_are; owed_are = was.own.owed_are; hand_is = tt };
       counted = counted-same _ _ s.tickets.items s.tickets.items (waiting_of s) (waiting_of after) hand.Nothing hand.Nothing s.counts _ _ same was.counted.flights (let d = was.counted.directs in omega (arith, d, long)) was.counted;
       sound = sound-same _ _ _ _ _ (waiting_of s) (waiting_of after) hand.Nothing hand.Nothing _ same was.sound;
+      size_is = was.size_is;
       staged = record { hurt = was.staged.hurt; fetch = was.staged.fetch; stands = tt };
       roomy = record { back = let b = was.roomy.back in omega (arith, b, long, room); on = let o = was.roomy.on in omega (arith, o, long); late = let l = was.roomy.late in omega (arith, l, long); none = was.roomy.none; unread = was.roomy.unread };
     }
 
 -- a part on disk is given out
 pub kept-read : {W : Type 0} (told : Bool) (files : Files) (s : Inside W) (left : Vec (Found W) Global) (x : Found W) → given_of s.hand ≡ Nothing → s.disks.items ≡ left.items ++ x ∷ [] → IsKept told files s →
-    IsKept told files (record s { disks = left; hand = hand.Disk x.segment }) × IsFound s.reading s.piece.off (length s.bytes.items) x
+    IsKept told files (record s { disks = left; hand = hand.Disk x.segment }) × IsFound s.reading (spots_of s) (length s.bytes.items) x
 kept-read {W = W} told files s left x idle last kept =
     let was = idle-kept told files s idle kept in
-    let split = All-pop (IsFound s.reading s.piece.off (length s.bytes.items)) s.disks.items left.items (Some x) last was.own.disks_are in
+    let split = All-pop (IsFound s.reading (spots_of s) (length s.bytes.items)) s.disks.items left.items (Some x) last was.own.disks_are in
     let long = last-long s.disks.items left.items x last in
     let after : Inside W = record s { disks = left; hand = hand.Disk x.segment } in
     let same : SameParts (waiting_of s) (waiting_of after) hand.Nothing (hand.Disk x.segment) = record {
@@ -144,6 +149,7 @@ kept-read {W = W} told files s left x idle last kept =
         own = record { tickets_are = was.own.tickets_are; pins_are = was.own.pins_are; pendings_are = was.own.pendings_are; disks_are = split.0; owed_are = was.own.owed_are; hand_is = split.1.placed };
         counted = counted-same _ _ s.tickets.items s.tickets.items (waiting_of s) (waiting_of after) hand.Nothing (hand.Disk x.segment) s.counts _ _ same was.counted.flights (let d = was.counted.directs in omega (arith, d, long)) was.counted;
         sound = sound-same _ _ _ _ _ (waiting_of s) (waiting_of after) hand.Nothing (hand.Disk x.segment) _ same was.sound;
+        size_is = was.size_is;
         staged = record { hurt = was.staged.hurt; fetch = was.staged.fetch; stands = tt };
         roomy = record { back = was.roomy.back; on = was.roomy.on; late = let l = was.roomy.late in omega (arith, l, long); none = was.roomy.none; unread = let u = was.roomy.unread in omega (arith, u, long) };
       },
@@ -160,9 +166,10 @@ kept-end {W = W} told files s left flown filled looked e none idle kept =
     let after : Inside W = record s { disks = left; hand = hand.End } in
     let same : SameParts (waiting_of s) (waiting_of after) hand.Nothing hand.End = record { each = λ f. let l = ap (sum_by (in_found f)) disks in omega (arith, l) } in
     record {
-      own = record { tickets_are = was.own.tickets_are; pins_are = was.own.pins_are; pendings_are = was.own.pendings_are; disks_are = subst (All (IsFound s.reading s.piece.off (length s.bytes.items))) disks was.own.disks_are; owed_are = was.own.owed_are; hand_is = tt };
+      own = record { tickets_are = was.own.tickets_are; pins_are = was.own.pins_are; pendings_are = was.own.pendings_are; disks_are = subst (All (IsFound s.reading (spots_of s) (length s.bytes.items))) disks was.own.disks_are; owed_are = was.own.owed_are; hand_is = tt };
       counted = counted-same _ _ s.tickets.items s.tickets.items (waiting_of s) (waiting_of after) hand.Nothing hand.End s.counts _ _ same was.counted.flights (let d = was.counted.directs in omega (arith, d, long)) was.counted;
       sound = sound-same _ _ _ _ _ (waiting_of s) (waiting_of after) hand.Nothing hand.End _ same was.sound;
+      size_is = was.size_is;
       staged = record { hurt = was.staged.hurt; fetch = was.staged.fetch; stands = (flown, filled, inl (looked, none)) };
       roomy = record { back = was.roomy.back; on = was.roomy.on; late = let l = was.roomy.late in omega (arith, l, long); none = was.roomy.none; unread = let u = was.roomy.unread in omega (arith, u, long) };
     }
@@ -179,7 +186,7 @@ pub disks-read : {W : Type 0} (w : Mark → ℕ) (disks rest : List (Found W)) (
 disks-read w disks rest x e = sym (ap (sum_by w) (ap (map disk_in) e ∙ map-append disk_in rest (x ∷ [])) ∙ sum_by_push w (map disk_in rest) x.disk)
 
 -- in the token's own terms
-pub found-part : {W : Type 0} (reading : Mark) (off total : ℕ) (x : Found W) → IsFound reading off total x → IsPartOf x.disk.size x.disk.block_size x.segment.part
-found-part reading off total x is =
+pub found-part : {W : Type 0} (reading : Mark) (spot_at : ℕ → ℕ) (total : ℕ) (x : Found W) → IsFound reading spot_at total x → IsPartOf x.disk.size x.disk.block_size x.segment.part
+found-part reading spot_at total x is =
     let token = is.disk_for.token in
     subst (λ s. IsPartOf s x.disk.block_size x.segment.part) (sym token.size_is) (subst (λ k. IsPartOf reading.size k x.segment.part) (sym token.block_size_is) is.placed.part_of)

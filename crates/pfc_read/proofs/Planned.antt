@@ -1,5 +1,5 @@
 -- What a plan begins with.
-use Rattle.std.proofs.Common.{◌≡◌, ◌+◌, ◌-◌, ◌*◌, ◌<◌, ◌≤◌, ◌⊎◌, ℕ, Bool, List, [], ◌∷◌, ◌++◌, length, take, drop, map, min, length-append, length-drop, refl, sym, ap, ◌∙◌, arith, subst, Option, Some, None, inl, inr, eq-eqb}
+use Rattle.std.proofs.Common.{◌≡◌, ◌+◌, ◌*◌, ◌<◌, ◌≤◌, ◌⊎◌, ℕ, Bool, List, [], ◌∷◌, ◌++◌, length, take, drop, map, length-append, length-drop, sym, ap, ◌∙◌, arith, subst, Option, Some, None, inl, inr}
 use Rattle.std.specs.Prelude.{sum_by, All}
 use Rattle.std.proofs.lemmas.List.{nil_from_length, length-map}
 use Rattle.std.proofs.lemmas.List.Elements.{All-nil, All-head, All-tail, All-weaker}
@@ -7,11 +7,12 @@ use Rattle.std.proofs.lemmas.List.Sums.{sum_by-append, sum_by-take-le, sum_by-co
 use Rattle.std.proofs.Math.Seq.{take-length}
 use Rattle.pfc_base.specs.Block.{IsPartOf}
 use Rattle.pfc_base.specs.declared.block.Part.{Part}
-use Rattle.pfc_base.specs.declared.block.Piece.{Piece}
 use Rattle.pfc_log.specs.declared.entry.Fell.{Fell}
 use Rattle.pfc_log.specs.declared.entry.Fell.TheVariants.{Fault, Memory}
 use Rattle.pfc_world.specs.Files.{Files, HasSize}
-use Rattle.pfc_span.specs.Tiling.{part_len, parts_of, Tiles, TileEach}
+use Rattle.pfc_span.specs.declared.pieces.Pieces.{Pieces}
+use Rattle.pfc_span.specs.Pieces.{pieces_in, asked_of, total_of, spot}
+use Rattle.pfc_span.specs.Tiling.{part_len, TileInTurn}
 use Rattle.pfc_core.specs.Calls.{Begins, IsOf}
 use Rattle.pfc_core.specs.Leave.{LeaveView}
 use Rattle.pfc_core.specs.Marks.{Kind, TicketKind, PinKind, DiskKind, Mark}
@@ -24,19 +25,9 @@ use Rattle.pfc_read.specs.declared.segment.Owed.{Owed}
 use Rattle.pfc_read.specs.declared.segment.Pending.{Pending}
 use Rattle.pfc_read.specs.declared.draft.Draft.{Draft}
 use Rattle.pfc_read.specs.Segments.{IsPlaced, len_in, covers, len_from, Waiting, weigh, pin_in, disk_in}
-use Rattle.pfc_read.specs.Draft.{IsAsked, IsStored, IsSent, waiting_in, AreAsked}
+use Rattle.pfc_read.specs.Draft.{IsAsked, IsStored, IsSent, waiting_in, StandAt, AreAsked}
 use Rattle.pfc_read.specs.Steps.{IsTokenOf}
 use Rattle.pfc_read.specs.Kept.{AreOwn, AreCounted, IsSound, IsStaged, IsFit, IsFound, IsOwed}
-
--- with one piece every part is its own
-parts_of-all : (placed : List (ℕ × Part)) → All (λ x. x.0 < 1) placed → parts_of 0 placed ≡ map (λ x. x.1) placed
-parts_of-all [] below = refl
-parts_of-all (x ∷ xs) below =
-    let h = All-head (λ (y : ℕ × Part). y.0 < 1) x xs below in
-    rw (eq-eqb x.0 0 (omega (arith, h))) (ap (λ ps. x.1 ∷ ps) (parts_of-all xs (All-tail (λ y. y.0 < 1) x xs below)))
-
-pub tiles-one : (size k : ℕ) (piece : Piece) (placed : List (ℕ × Part)) → TileEach size k (piece ∷ []) placed → Tiles size k piece (map (λ x. x.1) placed)
-tiles-one size k piece placed is = subst (Tiles size k piece) (parts_of-all placed is.places) (is.tile 0 piece refl)
 
 -- no part is empty
 number-le-lens : (size k : ℕ) (parts : List Part) → All (IsPartOf size k) parts → length parts ≤ sum_by part_len parts
@@ -75,21 +66,21 @@ token-of v n r kind m home is = record {
   client_is = is.client_is ∙ sym home.client_is;
 }
 
-placed-of : (v : CoreView) (n off total : ℕ) (r : Mark) (s : Segment) → IsHome r n v → IsPlaced v.size v.block_size off total s → IsPlaced r.size r.block_size off total s
-placed-of v n off total r s home is = record {
+placed-of : (v : CoreView) (n : ℕ) (spot_at : ℕ → ℕ) (total : ℕ) (r : Mark) (s : Segment) → IsHome r n v → IsPlaced v.size v.block_size spot_at total s → IsPlaced r.size r.block_size spot_at total s
+placed-of v n spot_at total r s home is = record {
   part_of = subst (λ z. IsPartOf z r.block_size s.part) (sym home.size_is) (subst (λ k. IsPartOf v.size k s.part) (sym home.block_size_is) is.part_of);
-  place = ap (λ k. s.part.block * k + s.part.from) home.block_size_is ∙ is.place;
+  place = λ x h. ap (λ k. s.part.block * k + s.part.from + x) home.block_size_is ∙ is.place x h;
   within = is.within;
 }
 
-fit-of : {W : Type 0} (v : CoreView) (n off total : ℕ) (r : Mark) (p : Pending W) → IsHome r n v → IsAsked v n off total p → IsFit r off total p
-fit-of v n off total r p home is = record { pin_for = record { token = token-of v n r PinKind p.pin home is.pin_of; block_is = is.block_is }; placed = placed-of v n off total r p.segment home is.placed }
+fit-of : {W : Type 0} (v : CoreView) (n : ℕ) (spot_at : ℕ → ℕ) (total : ℕ) (r : Mark) (p : Pending W) → IsHome r n v → IsAsked v n spot_at total p → IsFit r spot_at total p
+fit-of v n spot_at total r p home is = record { pin_for = record { token = token-of v n r PinKind p.pin home is.pin_of; block_is = is.block_is }; placed = placed-of v n spot_at total r p.segment home is.placed }
 
-found-of : {W : Type 0} (v : CoreView) (n off total : ℕ) (r : Mark) (x : Found W) → IsHome r n v → IsStored v n off total x → IsFound r off total x
-found-of v n off total r x home is = record { disk_for = record { token = token-of v n r DiskKind x.disk home is.disk_of; block_is = is.block_is }; placed = placed-of v n off total r x.segment home is.placed }
+found-of : {W : Type 0} (v : CoreView) (n : ℕ) (spot_at : ℕ → ℕ) (total : ℕ) (r : Mark) (x : Found W) → IsHome r n v → IsStored v n spot_at total x → IsFound r spot_at total x
+found-of v n spot_at total r x home is = record { disk_for = record { token = token-of v n r DiskKind x.disk home is.disk_of; block_is = is.block_is }; placed = placed-of v n spot_at total r x.segment home is.placed }
 
-owed-of : {W : Type 0} (v : CoreView) (n off total : ℕ) (r : Mark) (o : Owed W) → IsHome r n v → IsSent v n off total o → IsOwed r off total o
-owed-of v n off total r o home is = record {
+owed-of : {W : Type 0} (v : CoreView) (n : ℕ) (spot_at : ℕ → ℕ) (total : ℕ) (r : Mark) (o : Owed W) → IsHome r n v → IsSent v n spot_at total o → IsOwed r spot_at total o
+owed-of v n spot_at total r o home is = record {
   leave_of = record {
     client_is = ap (λ (l : LeaveView). l.client) is.leave_is ∙ sym home.client_is;
     path_is = ap (λ (l : LeaveView). l.path) is.leave_is ∙ sym home.path_is;
@@ -97,45 +88,46 @@ owed-of v n off total r o home is = record {
     block_size_is = ap (λ (l : LeaveView). l.block_size) is.leave_is ∙ sym home.block_size_is;
   };
   part_is = ap (λ (l : LeaveView). l.part) is.leave_is;
-  placed = placed-of v n off total r o.segment home is.placed;
+  placed = placed-of v n spot_at total r o.segment home is.placed;
   source_is = is.source_is;
 }
 
 -- a plan, before its read is made
-pub record IsPlanned {W : Type 0} (told : Bool) (files : Files) (old mid : CoreView) (n : ℕ) (piece : Piece) (r : Mark) (parts : List Part) (len number : ℕ) (draft : Draft W) (met : Option Fell) (new : CoreView) : Type 0 where
-  pub short : piece.len ≤ 16777216
+pub record IsPlanned {W : Type 0} (told : Bool) (files : Files) (old mid : CoreView) (n : ℕ) (pieces : Pieces) (r : Mark) (parts : List Part) (len number : ℕ) (draft : Draft W) (met : Option Fell) (new : CoreView) : Type 0 where
+  pub short : asked_of (pieces_in pieces) ≤ 16777216
   pub least : 4096 ≤ old.block_size
   pub most : old.block_size ≤ 16777216
   pub sized : HasSize told files old.path old.size
   pub begins : Begins old n r mid
-  pub tiles : Tiles old.size old.block_size piece parts
-  pub long : len ≡ min piece.len (old.size - piece.off)
+  pub tiles : TileInTurn old.size old.block_size (pieces_in pieces) parts
+  pub long : len ≡ total_of old.size (pieces_in pieces)
   pub within : number ≤ length parts
   pub asked : AreAsked mid n parts number draft new
   pub all : met ≡ None → number ≡ length parts
   pub met_is : (met ≡ None) ⊎ (met ≡ Some Memory)
 
-pub planned-own : {W : Type 0} (told : Bool) (files : Files) (old mid : CoreView) (n : ℕ) (piece : Piece) (r : Mark) (parts : List Part) (len number : ℕ) (draft : Draft W) (met : Option Fell) (new : CoreView) →
-    IsPlanned told files old mid n piece r parts len number draft met new → AreOwn r piece.off len draft.tickets.items [] (waiting_in draft) hand.Nothing
-planned-own {W = W} told files old mid n piece r parts len number draft met new is =
+pub planned-own : {W : Type 0} (told : Bool) (files : Files) (old mid : CoreView) (n : ℕ) (pieces : Pieces) (r : Mark) (parts : List Part) (len number : ℕ) (draft : Draft W) (met : Option Fell) (new : CoreView) →
+    IsPlanned told files old mid n pieces r parts len number draft met new → AreOwn r (spot r.size (pieces_in pieces)) len draft.tickets.items [] (waiting_in draft) hand.Nothing
+planned-own {W = W} told files old mid n pieces r parts len number draft met new is =
     let home = home-of old mid n r is.begins in
-    let off = piece.off in
+    let spot_at : ℕ → ℕ = spot r.size (pieces_in pieces) in
     let all : ℕ = sum_by part_len parts in
     let total : all ≡ len = is.tiles.whole ∙ sym is.long in
-    let row = subst (λ (v : CoreView). Rattle.pfc_span.specs.Tiling.AreInRow v.block_size off parts) (sym is.begins.rest) is.tiles.row in
-    let are = is.asked.waiting_are off row in
+    let here : StandAt mid.block_size (spot mid.size (pieces_in pieces)) parts = subst (λ (v : CoreView). StandAt v.block_size (spot v.size (pieces_in pieces)) parts) (sym is.begins.rest) is.tiles.spots in
+    let stand : StandAt mid.block_size spot_at parts = subst (λ z. StandAt mid.block_size (spot z (pieces_in pieces)) parts) (sym home.size_is) here in
+    let are = is.asked.waiting_are spot_at stand in
     record {
       tickets_are = All-weaker (IsOf mid TicketKind n) (IsTokenOf r TicketKind) (λ m h. token-of mid n r TicketKind m home h) draft.tickets.items is.asked.tickets_are;
       pins_are = All-nil (IsTokenOf r PinKind);
-      pendings_are = All-weaker (IsAsked mid n off all) (IsFit r off len) (λ p h. subst (λ t. IsFit r off t p) total (fit-of mid n off all r p home h)) draft.pendings.items are.pendings;
-      disks_are = All-weaker (IsStored mid n off all) (IsFound r off len) (λ p h. subst (λ t. IsFound r off t p) total (found-of mid n off all r p home h)) draft.disks.items are.disks;
-      owed_are = All-weaker (IsSent mid n off all) (IsOwed r off len) (λ p h. subst (λ t. IsOwed r off t p) total (owed-of mid n off all r p home h)) draft.owed.items are.owed;
+      pendings_are = All-weaker (IsAsked mid n spot_at all) (IsFit r spot_at len) (λ p h. subst (λ t. IsFit r spot_at t p) total (fit-of mid n spot_at all r p home h)) draft.pendings.items are.pendings;
+      disks_are = All-weaker (IsStored mid n spot_at all) (IsFound r spot_at len) (λ p h. subst (λ t. IsFound r spot_at t p) total (found-of mid n spot_at all r p home h)) draft.disks.items are.disks;
+      owed_are = All-weaker (IsSent mid n spot_at all) (IsOwed r spot_at len) (λ p h. subst (λ t. IsOwed r spot_at t p) total (owed-of mid n spot_at all r p home h)) draft.owed.items are.owed;
       hand_is = tt;
     }
 
-pub planned-counted : {W : Type 0} (told : Bool) (files : Files) (old mid : CoreView) (n : ℕ) (piece : Piece) (r : Mark) (parts : List Part) (len number : ℕ) (draft : Draft W) (met : Option Fell) (new : CoreView) →
-    IsPlanned told files old mid n piece r parts len number draft met new → AreCounted r.block_size len draft.tickets.items (waiting_in draft) hand.Nothing draft.counts (record { hit = 0; missed = 0; bypassed = 0 }) met
-planned-counted {W = W} told files old mid n piece r parts len number draft met new is =
+pub planned-counted : {W : Type 0} (told : Bool) (files : Files) (old mid : CoreView) (n : ℕ) (pieces : Pieces) (r : Mark) (parts : List Part) (len number : ℕ) (draft : Draft W) (met : Option Fell) (new : CoreView) →
+    IsPlanned told files old mid n pieces r parts len number draft met new → AreCounted r.block_size len draft.tickets.items (waiting_in draft) hand.Nothing draft.counts (record { hit = 0; missed = 0; bypassed = 0 }) met
+planned-counted {W = W} told files old mid n pieces r parts len number draft met new is =
     let home = home-of old mid n r is.begins in
     let total : sum_by part_len parts ≡ len = is.tiles.whole ∙ sym is.long in
     let front = sum_by-take-le part_len parts number in
@@ -153,9 +145,9 @@ planned-counted {W = W} told files old mid n piece r parts len number draft met 
       directs = let m = is.asked.number_is in let o = is.asked.leaves_is in let w = is.within in omega (arith, m, o, w, few, total);
     }
 
-pub planned-sound : {W : Type 0} (told : Bool) (files : Files) (old mid : CoreView) (n : ℕ) (piece : Piece) (r : Mark) (parts : List Part) (bytes : List ℕ) (number : ℕ) (draft : Draft W) (met : Option Fell) (new : CoreView) →
-    IsPlanned told files old mid n piece r parts (length bytes) number draft met new → IsSound told files r piece bytes (waiting_in draft) hand.Nothing met
-planned-sound {W = W} told files old mid n piece r parts bytes number draft met new is =
+pub planned-sound : {W : Type 0} (told : Bool) (files : Files) (old mid : CoreView) (n : ℕ) (pieces : Pieces) (r : Mark) (parts : List Part) (bytes : List ℕ) (number : ℕ) (draft : Draft W) (met : Option Fell) (new : CoreView) →
+    IsPlanned told files old mid n pieces r parts (length bytes) number draft met new → IsSound told files r pieces bytes (waiting_in draft) hand.Nothing met
+planned-sound {W = W} told files old mid n pieces r parts bytes number draft met new is =
     let reads = is.begins.reads in
     let k_is : r.block_size ≡ old.block_size = reads.block_size_is in
     let total : sum_by part_len parts ≡ length bytes = is.tiles.whole ∙ sym is.long in
@@ -164,7 +156,7 @@ planned-sound {W = W} told files old mid n piece r parts bytes number draft met 
       least = let l = is.least in omega (arith, l, k_is);
       most = let m = is.most in omega (arith, m, k_is);
       sized = subst (λ p. HasSize told files p r.size) (sym reads.path_is) (subst (λ s. HasSize told files old.path s) (sym reads.size_is) is.sized);
-      long = is.long ∙ ap (λ s. min piece.len (s - piece.off)) (sym reads.size_is);
+      long = is.long ∙ ap (λ s. total_of s (pieces_in pieces)) (sym reads.size_is);
       agrees = λ t none file at j low zero.
           let all : take number parts ≡ parts = ap (λ m. take m parts) (is.all none) ∙ take-length parts in
           let here : j < sum_by part_len (take number parts) = let s = ap (sum_by part_len) all in omega (arith, s, low, total) in

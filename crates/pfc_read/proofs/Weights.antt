@@ -1,9 +1,9 @@
 -- Parts that are still to be read, in another place.
 use Rattle.std.proofs.Common.{◌≡◌, ◌+◌, ◌≤◌, ℕ, List, length, sym, ◌∙◌, arith, Option, Bool}
-use Rattle.pfc_base.specs.declared.block.Piece.{Piece}
 use Rattle.pfc_log.specs.declared.entry.Fell.{Fell}
 use Rattle.pfc_log.specs.declared.entry.Served.{Served}
 use Rattle.pfc_world.specs.Files.{Files}
+use Rattle.pfc_span.specs.declared.pieces.Pieces.{Pieces}
 use Rattle.pfc_core.specs.Marks.{Mark}
 use Rattle.pfc_read.specs.declared.segment.Source.TheVariants as source
 use Rattle.pfc_read.specs.declared.segment.Segment.{Segment}
@@ -35,9 +35,9 @@ counted-same k total tickets rest before after h hand counts served met same fli
       directs = directs;
     }
 
-pub sound-same : {W : Type 0} (told : Bool) (files : Files) (reading : Mark) (piece : Piece) (bytes : List ℕ) (before after : Waiting W) (h hand : Hand) (met : Option Fell) → SameParts before after h hand → IsSound told files reading piece bytes before h met →
-    IsSound told files reading piece bytes after hand met
-sound-same told files reading piece bytes before after h hand met same was = record {
+pub sound-same : {W : Type 0} (told : Bool) (files : Files) (reading : Mark) (pieces : Pieces) (bytes : List ℕ) (before after : Waiting W) (h hand : Hand) (met : Option Fell) → SameParts before after h hand → IsSound told files reading pieces bytes before h met →
+    IsSound told files reading pieces bytes after hand met
+sound-same told files reading pieces bytes before after h hand met same was = record {
   short = was.short;
   least = was.least;
   most = was.most;

@@ -56,9 +56,9 @@ covers-cases j s = elim (cases_lt j s.at) [
 ]
 
 -- what is written into a part that is still to be read changes nothing
-pub agrees-written : (file : List ℕ) (off : ℕ) (bytes new into : List ℕ) (s : Segment) (before after : ℕ → ℕ) → IsWritten bytes s.at into new → length into ≡ s.part.len → ((j : ℕ) → covers j s ≤ after j) → ((j : ℕ) → after j ≡ before j) →
-    Agrees file off bytes before → Agrees file off new after
-agrees-written file off bytes new into s before after is long own same was j low zero =
+pub agrees-written : (file : List ℕ) (spot_at : ℕ → ℕ) (bytes new into : List ℕ) (s : Segment) (before after : ℕ → ℕ) → IsWritten bytes s.at into new → length into ≡ s.part.len → ((j : ℕ) → covers j s ≤ after j) → ((j : ℕ) → after j ≡ before j) →
+    Agrees file spot_at bytes before → Agrees file spot_at new after
+agrees-written file spot_at bytes new into s before after is long own same was j low zero =
     let out : (j < s.at) ⊎ (s.at + length into ≤ j) = elim (covers-cases j s) [
       | inl in' ↦ let o = own j in let c = covers-in j s in'.0 in'.1 in absurd (omega (arith, o, c, zero))
       | inr out ↦ elim out.1 [ inl low ↦ inl low | inr past ↦ inr (omega (arith, past, long)) ]
@@ -67,17 +67,17 @@ agrees-written file off bytes new into s before after is long own same was j low
     is.rest j out ∙ was j lower (sym (same j) ∙ zero)
 
 -- the file's bytes come into their part
-pub agrees-filled : (file : List ℕ) (off : ℕ) (bytes new into : List ℕ) (s : Segment) (before after : ℕ → ℕ) → IsWritten bytes s.at into new → length into ≡ s.part.len → into ≡ slice_of file (off + s.at) (length into) →
-    ((j : ℕ) → before j ≡ after j + covers j s) → Agrees file off bytes before → Agrees file off new after
-agrees-filled file off bytes new into s before after is long right sums was j low zero = elim (covers-cases j s) [
+pub agrees-filled : (file : List ℕ) (spot_at : ℕ → ℕ) (bytes new into : List ℕ) (s : Segment) (from : ℕ) (before after : ℕ → ℕ) → IsWritten bytes s.at into new → length into ≡ s.part.len → into ≡ slice_of file from (length into) →
+    ((x : ℕ) → x < s.part.len → from + x ≡ spot_at (s.at + x)) → ((j : ℕ) → before j ≡ after j + covers j s) → Agrees file spot_at bytes before → Agrees file spot_at new after
+agrees-filled file spot_at bytes new into s from before after is long right place sums was j low zero = elim (covers-cases j s) [
   | inl in' ↦
       let k : ℕ = j - s.at in
       let low_k : k < length into = let a = in'.0 in let b = in'.1 in omega (arith, a, b, long) in
       let at_j : s.at + k ≡ j = let a = in'.0 in omega (arith, a) in
       let here : get_or new j 0 ≡ get_or into k 0 = ap (λ n. get_or new n 0) (sym at_j) ∙ is.part k low_k in
-      let there : get_or into k 0 ≡ get_or file (off + s.at + k) 0 = ap (λ (l : List ℕ). get_or l k 0) right ∙ get_or-take (length into) (drop (off + s.at) file) k 0 low_k ∙ get_or-drop (off + s.at) file k 0 in
-      let place : off + s.at + k ≡ off + j = omega (arith, at_j) in
-      here ∙ there ∙ ap (λ n. get_or file n 0) place
+      let there : get_or into k 0 ≡ get_or file (from + k) 0 = ap (λ (l : List ℕ). get_or l k 0) right ∙ get_or-take (length into) (drop from file) k 0 low_k ∙ get_or-drop from file k 0 in
+      let spot : from + k ≡ spot_at j = place k (omega (arith, low_k, long)) ∙ ap spot_at at_j in
+      here ∙ there ∙ ap (λ n. get_or file n 0) spot
   | inr out ↦
       let away : (j < s.at) ⊎ (s.at + length into ≤ j) = elim out.1 [ inl low ↦ inl low | inr past ↦ inr (omega (arith, past, long)) ] in
       let lower : j < length bytes = let l = is.long in omega (arith, low, l) in

@@ -1,10 +1,10 @@
 -- The decisions for the parts of a read, one by one.
-use Rattle.std.specs.Prelude.{◌≡◌, ◌+◌, ◌*◌, ◌<◌, ◌≤◌, ◌==◌, ℕ, false, List, [], ◌∷◌, ◌++◌, length, take, map, reverse, sum_by, vec_len, vec_capacity, All, Option, Some, None, ◌⊎◌}
+use Rattle.std.specs.Prelude.{◌≡◌, ◌+◌, ◌*◌, ◌<◌, ◌≤◌, ◌==◌, ℕ, false, List, [], ◌∷◌, ◌++◌, length, take, map, reverse, slice_index_or, sum_by, vec_len, vec_capacity, All, Option, Some, None, ◌⊎◌}
 use Rattle.pfc_base.specs.declared.block.Part.{Part}
 use Rattle.pfc_log.specs.declared.entry.Fell.{Fell}
 use Rattle.pfc_log.specs.declared.entry.Fell.TheVariants.{Memory}
 use Rattle.pfc_log.specs.Tallies.{tally}
-use Rattle.pfc_span.specs.Tiling.{part_len, AreInRow}
+use Rattle.pfc_span.specs.Tiling.{part_len}
 use Rattle.pfc_core.specs.declared.token.Decision.{Decision}
 use Rattle.pfc_core.specs.declared.token.Decision.TheVariants as d
 use Rattle.pfc_core.specs.Calls.{Decides, IsOf}
@@ -110,34 +110,39 @@ pub record Asks {W : Type 0} (old : CoreView) (n : ℕ) (part : Part) (at : ℕ)
   pub room : SameRoom before after
 
 -- a pin of the client on the block of its segment
-pub record IsAsked {W : Type 0} (v : CoreView) (n off total : ℕ) (p : Pending W) : Type 0 where
+pub record IsAsked {W : Type 0} (v : CoreView) (n : ℕ) (spot_at : ℕ → ℕ) (total : ℕ) (p : Pending W) : Type 0 where
   pub pin_of : IsOf v PinKind n p.pin
   pub block_is : p.pin.block ≡ p.segment.part.block
-  pub placed : IsPlaced v.size v.block_size off total p.segment
+  pub placed : IsPlaced v.size v.block_size spot_at total p.segment
 
 -- a right of the client to read the block of its segment from disk
-pub record IsStored {W : Type 0} (v : CoreView) (n off total : ℕ) (x : Found W) : Type 0 where
+pub record IsStored {W : Type 0} (v : CoreView) (n : ℕ) (spot_at : ℕ → ℕ) (total : ℕ) (x : Found W) : Type 0 where
   pub disk_of : IsOf v DiskKind n x.disk
   pub block_is : x.disk.block ≡ x.segment.part.block
-  pub placed : IsPlaced v.size v.block_size off total x.segment
+  pub placed : IsPlaced v.size v.block_size spot_at total x.segment
 
 -- a leave of the client for the part of its segment
-pub record IsSent {W : Type 0} (v : CoreView) (n off total : ℕ) (owed : Owed W) : Type 0 where
+pub record IsSent {W : Type 0} (v : CoreView) (n : ℕ) (spot_at : ℕ → ℕ) (total : ℕ) (owed : Owed W) : Type 0 where
   pub leave_is : owed.leave ≡ record { client = n; path = v.path; size = v.size; block_size = v.block_size; part = owed.segment.part }
   pub source_is : owed.segment.source ≡ source.Origin
-  pub placed : IsPlaced v.size v.block_size off total owed.segment
+  pub placed : IsPlaced v.size v.block_size spot_at total owed.segment
 
-pub record AreAll {W : Type 0} (v : CoreView) (n off total : ℕ) (w : Waiting W) : Type 0 where
-  pub pendings : All (IsAsked v n off total) w.pendings
-  pub disks : All (IsStored v n off total) w.disks
-  pub owed : All (IsSent v n off total) w.owed
+pub record AreAll {W : Type 0} (v : CoreView) (n : ℕ) (spot_at : ℕ → ℕ) (total : ℕ) (w : Waiting W) : Type 0 where
+  pub pendings : All (IsAsked v n spot_at total) w.pendings
+  pub disks : All (IsStored v n spot_at total) w.disks
+  pub owed : All (IsSent v n spot_at total) w.owed
+
+-- each byte of parts that are read one behind the other stands where this says in the file, by its place in the reply
+abbrev pub StandAt : ℕ → (ℕ → ℕ) → List Part → Type 0
+StandAt k spot_at parts = (i : ℕ) (d : Part) (x : ℕ) → i < length parts → x < (slice_index_or parts i d).len →
+    (slice_index_or parts i d).block * k + (slice_index_or parts i d).from + x ≡ spot_at (sum_by part_len (take i parts) + x)
 
 -- what this draft is to the core, by which so many of the parts are decided
 pub record AreAsked {W : Type 0} (old : CoreView) (n : ℕ) (parts : List Part) (number : ℕ) (draft : Draft W) (new : CoreView) : Type 0 where
   pub decides : DecidesAll old n (take number parts) new
   pub unchanged : new ≡ record old { entries = new.entries; out = new.out }
   pub tickets_are : All (IsOf old TicketKind n) draft.tickets.items
-  pub waiting_are : (off : ℕ) → AreInRow old.block_size off parts → AreAll old n off (sum_by part_len parts) (waiting_in draft)
+  pub waiting_are : (spot_at : ℕ → ℕ) → StandAt old.block_size spot_at parts → AreAll old n spot_at (sum_by part_len parts) (waiting_in draft)
   pub gains : (w : Mark → ℕ) → sum_by w new.out ≡ sum_by w old.out + sum_by w draft.tickets.items + sum_by w (map pin_in draft.pendings.items) + sum_by w (map disk_in draft.disks.items)
   pub number_is : length draft.pendings.items + length draft.disks.items + length draft.owed.items ≡ number
   pub counts : draft.counts.hits + draft.counts.waits + draft.counts.directs ≡ number

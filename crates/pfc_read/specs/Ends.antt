@@ -1,10 +1,10 @@
 -- How a read ends.
-use Rattle.std.specs.Prelude.{◌≡◌, ◌<◌, ◌≤◌, ◌+◌, ◌-◌, ◌*◌, ◌==◌, min, ℕ, Bool, false, IsTrue, List, length, Option, Some, None, IsSomeAnd, sum_by}
-use Rattle.pfc_base.specs.Block.{slice_of}
+use Rattle.std.specs.Prelude.{◌≡◌, ◌<◌, ◌≤◌, ◌+◌, ◌*◌, ◌==◌, ℕ, Bool, false, IsTrue, List, length, Option, Some, None, IsSomeAnd, sum_by}
 use Rattle.pfc_log.specs.declared.entry.Fell.TheVariants.{Fault, Memory}
 use Rattle.pfc_log.specs.declared.entry.Served.{Served}
 use Rattle.pfc_log.specs.Tallies.{Tally, tally}
 use Rattle.pfc_world.specs.Files.{Files, file_at}
+use Rattle.pfc_span.specs.Pieces.{pieces_in, total_of, bytes_of}
 use Rattle.pfc_core.specs.Finishes.{Finishes}
 use Rattle.pfc_core.specs.Marks.{Mark, listed, sees}
 use Rattle.pfc_core.specs.Access.{with_read}
@@ -13,27 +13,28 @@ use Rattle.pfc_read.specs.declared.action.Answer.{Answer}
 use Rattle.pfc_read.specs.declared.action.Answer.TheVariants as answer
 use Rattle.pfc_read.specs.OpView.{OpView, held}
 
--- how many bytes the read has, cut at the file's end
+-- how many bytes the read has, each piece cut at the file's end
 abbrev pub op_len : OpView → ℕ
-op_len op = min op.piece.len (op.reading.size - op.piece.off)
+op_len op = total_of op.reading.size (pieces_in op.pieces)
 
--- the piece's bytes, and by where they came from, each within whole blocks
+-- the bytes of the pieces, one behind the other, and by where they came from, each within whole blocks
 pub record IsData (told : Bool) (files : Files) (op : OpView) (bytes : List ℕ) (served : Served) : Type 0 where
   pub long : length bytes ≡ op_len op
-  pub right : IsTrue told → IsSomeAnd (file_at files op.reading.path) (λ file. bytes ≡ slice_of file op.piece.off op.piece.len)
+  pub right : IsTrue told → IsSomeAnd (file_at files op.reading.path) (λ file. bytes ≡ bytes_of file (pieces_in op.pieces))
   pub sum : served.hit + served.missed + served.bypassed ≡ length bytes
   pub hit : served.hit ≤ op.reading.block_size * op.hits
   pub missed : served.missed ≤ op.reading.block_size * op.waits
   pub bypassed : served.bypassed ≤ op.reading.block_size * op.directs
 
--- the answer is what came first, and data where nothing came; the origin fails only where there are bytes to read
+-- the answer is what came first, and data with its pieces and the size that cuts them where nothing came; the origin fails
+-- only where there are bytes to read
 abbrev pub Answers : Bool → Files → OpView → Answer → Type 0
-Answers told files op (answer.Bytes bytes served) = (op.met ≡ None) × IsData told files op bytes.items served
+Answers told files op (answer.Bytes bytes pieces size served) = (op.met ≡ None) × (pieces ≡ op.pieces) × (size ≡ op.reading.size) × IsData told files op bytes.items served
 Answers told files op answer.Fetch = (op.met ≡ Some Fault) × (0 < op_len op)
 Answers told files op answer.Memory = op.met ≡ Some Memory
 
 abbrev pub served_in : Answer → Option Served
-served_in (answer.Bytes bytes served) = Some served
+served_in (answer.Bytes bytes pieces size served) = Some served
 served_in answer.Fetch = None
 served_in answer.Memory = None
 

@@ -1,10 +1,11 @@
 -- What the fields of a read are.
-use Rattle.std.specs.Prelude.{◌≡◌, ◌<◌, ◌≤◌, ◌+◌, ◌-◌, ◌*◌, ◌⊎◌, min, ℕ, Bool, IsTrue, List, [], ◌++◌, length, map, vec_capacity, All, Option, Some, None, slice_index}
+use Rattle.std.specs.Prelude.{◌≡◌, ◌<◌, ◌≤◌, ◌+◌, ◌*◌, ◌⊎◌, ℕ, Bool, IsTrue, List, [], ◌++◌, length, map, vec_capacity, All, Option, Some, None, slice_index}
 use Rattle.pfc_log.specs.declared.entry.Fell.{Fell}
 use Rattle.pfc_log.specs.declared.entry.Fell.TheVariants.{Fault}
 use Rattle.pfc_log.specs.declared.entry.Served.{Served}
-use Rattle.pfc_base.specs.declared.block.Piece.{Piece}
 use Rattle.pfc_world.specs.Files.{Files, file_at, HasSize}
+use Rattle.pfc_span.specs.declared.pieces.Pieces.{Pieces}
+use Rattle.pfc_span.specs.Pieces.{pieces_in, asked_of, total_of, spot}
 use Rattle.pfc_core.specs.Marks.{Mark, TicketKind, PinKind}
 use Rattle.pfc_read.specs.declared.segment.Source.TheVariants as source
 use Rattle.pfc_read.specs.declared.segment.Segment.{Segment}
@@ -29,7 +30,7 @@ given_of hand.End = ToEnd
 
 abbrev pub view_of : {W : Type 0} → Inside W → OpView
 view_of s = record {
-  piece = s.piece;
+  pieces = s.pieces;
   reading = s.reading;
   tickets = s.tickets.items;
   pins = map pin_in s.pendings.items ++ s.pins.items;
@@ -43,6 +44,10 @@ view_of s = record {
   met = s.met;
   given = given_of s.hand;
 }
+
+-- where in the file the byte at a place of the reply stands
+abbrev pub spots_of : {W : Type 0} → Inside W → ℕ → ℕ
+spots_of s = spot s.reading.size (pieces_in s.pieces)
 
 abbrev pub waiting_of : {W : Type 0} → Inside W → Waiting W
 waiting_of s = record { pendings = s.pendings.items; disks = s.disks.items; owed = s.owed.items }
@@ -66,36 +71,36 @@ is_open (hand.Disk s) = 1
 is_open _ = 0
 
 -- a pin for its segment
-pub record IsFit {W : Type 0} (reading : Mark) (off total : ℕ) (p : Pending W) : Type 0 where
+pub record IsFit {W : Type 0} (reading : Mark) (spot_at : ℕ → ℕ) (total : ℕ) (p : Pending W) : Type 0 where
   pub pin_for : IsPinFor reading p.segment.part p.pin
-  pub placed : IsPlaced reading.size reading.block_size off total p.segment
+  pub placed : IsPlaced reading.size reading.block_size spot_at total p.segment
 
 -- the right to read its segment from disk
-pub record IsFound {W : Type 0} (reading : Mark) (off total : ℕ) (x : Found W) : Type 0 where
+pub record IsFound {W : Type 0} (reading : Mark) (spot_at : ℕ → ℕ) (total : ℕ) (x : Found W) : Type 0 where
   pub disk_for : IsDiskFor reading x.segment.part x.disk
-  pub placed : IsPlaced reading.size reading.block_size off total x.segment
+  pub placed : IsPlaced reading.size reading.block_size spot_at total x.segment
 
 -- a leave for its segment
-pub record IsOwed {W : Type 0} (reading : Mark) (off total : ℕ) (owed : Owed W) : Type 0 where
+pub record IsOwed {W : Type 0} (reading : Mark) (spot_at : ℕ → ℕ) (total : ℕ) (owed : Owed W) : Type 0 where
   pub leave_of : IsLeaveOf reading owed.leave
   pub part_is : owed.leave.part ≡ owed.segment.part
-  pub placed : IsPlaced reading.size reading.block_size off total owed.segment
+  pub placed : IsPlaced reading.size reading.block_size spot_at total owed.segment
   pub source_is : owed.segment.source ≡ source.Origin
 
-abbrev pub FitsHand : (reading : Mark) (off total : ℕ) → Hand → Type 0
-FitsHand reading off total (hand.Leave s) = IsPlaced reading.size reading.block_size off total s × (s.source ≡ source.Origin)
-FitsHand reading off total (hand.Pin s) = IsPlaced reading.size reading.block_size off total s
-FitsHand reading off total (hand.Disk s) = IsPlaced reading.size reading.block_size off total s
-FitsHand reading off total _ = Unit {0}
+abbrev pub FitsHand : (reading : Mark) (spot_at : ℕ → ℕ) (total : ℕ) → Hand → Type 0
+FitsHand reading spot_at total (hand.Leave s) = IsPlaced reading.size reading.block_size spot_at total s × (s.source ≡ source.Origin)
+FitsHand reading spot_at total (hand.Pin s) = IsPlaced reading.size reading.block_size spot_at total s
+FitsHand reading spot_at total (hand.Disk s) = IsPlaced reading.size reading.block_size spot_at total s
+FitsHand reading spot_at total _ = Unit {0}
 
 -- all tokens are for the client and the file of the reading, and each part has its place in the reply
-pub record AreOwn {W : Type 0} (reading : Mark) (off total : ℕ) (tickets pins : List Mark) (w : Waiting W) (hand : Hand) : Type 0 where
+pub record AreOwn {W : Type 0} (reading : Mark) (spot_at : ℕ → ℕ) (total : ℕ) (tickets pins : List Mark) (w : Waiting W) (hand : Hand) : Type 0 where
   pub tickets_are : All (IsTokenOf reading TicketKind) tickets
   pub pins_are : All (IsTokenOf reading PinKind) pins
-  pub pendings_are : All (IsFit reading off total) w.pendings
-  pub disks_are : All (IsFound reading off total) w.disks
-  pub owed_are : All (IsOwed reading off total) w.owed
-  pub hand_is : FitsHand reading off total hand
+  pub pendings_are : All (IsFit reading spot_at total) w.pendings
+  pub disks_are : All (IsFound reading spot_at total) w.disks
+  pub owed_are : All (IsOwed reading spot_at total) w.owed
+  pub hand_is : FitsHand reading spot_at total hand
 
 abbrev pub served_sum : Served → ℕ
 served_sum s = s.hit + s.missed + s.bypassed
@@ -112,18 +117,18 @@ pub record AreCounted {W : Type 0} (k total : ℕ) (tickets : List Mark) (w : Wa
   pub flights : counts.failed + length tickets + is_run hand ≤ counts.waits
   pub directs : counts.directs + length w.pendings + length w.disks + is_open hand ≤ total
 
--- but for these places, the bytes are the file's from an offset on
-abbrev pub Agrees : List ℕ → ℕ → List ℕ → (ℕ → ℕ) → Type 0
-Agrees file off bytes pending = (j : ℕ) → j < length bytes → pending j ≡ 0 → slice_index bytes j ≡ slice_index file (off + j)
+-- but for these places, each byte is the file's where this says
+abbrev pub Agrees : List ℕ → (ℕ → ℕ) → List ℕ → (ℕ → ℕ) → Type 0
+Agrees file spot_at bytes pending = (j : ℕ) → j < length bytes → pending j ≡ 0 → slice_index bytes j ≡ slice_index file (spot_at j)
 
--- the reply has the piece's length, and the file's bytes where no part is still to be read
-pub record IsSound {W : Type 0} (told : Bool) (files : Files) (reading : Mark) (piece : Piece) (bytes : List ℕ) (w : Waiting W) (hand : Hand) (met : Option Fell) : Type 0 where
-  pub short : piece.len ≤ 16777216
+-- the reply has the pieces' length, and the file's bytes where no part is still to be read
+pub record IsSound {W : Type 0} (told : Bool) (files : Files) (reading : Mark) (pieces : Pieces) (bytes : List ℕ) (w : Waiting W) (hand : Hand) (met : Option Fell) : Type 0 where
+  pub short : asked_of (pieces_in pieces) ≤ 16777216
   pub least : 4096 ≤ reading.block_size
   pub most : reading.block_size ≤ 16777216
   pub sized : HasSize told files reading.path reading.size
-  pub long : length bytes ≡ min piece.len (reading.size - piece.off)
-  pub agrees : IsTrue told → met ≡ None → (file : List ℕ) → file_at files reading.path ≡ Some file → Agrees file piece.off bytes (λ j. weight_in (covers j) w hand)
+  pub long : length bytes ≡ total_of reading.size (pieces_in pieces)
+  pub agrees : IsTrue told → met ≡ None → (file : List ℕ) → file_at files reading.path ≡ Some file → Agrees file (spot reading.size (pieces_in pieces)) bytes (λ j. weight_in (covers j) w hand)
 
 abbrev pub Stands : {W : Type 0} → List Mark → Waiting W → ℕ → Hand → Type 0
 Stands tickets w failed hand.End = (tickets ≡ []) × (w.owed ≡ []) × (((w.pendings ≡ []) × (w.disks ≡ [])) ⊎ (0 < failed))
@@ -146,8 +151,9 @@ pub record IsRoomy {W : Type 0} (s : Inside W) : Type 0 where
   pub unread : length s.disks.items ≤ vec_capacity s.unread
 
 pub record IsKept {W : Type 0} (told : Bool) (files : Files) (s : Inside W) : Type 0 where
-  pub own : AreOwn s.reading s.piece.off (length s.bytes.items) s.tickets.items s.pins.items (waiting_of s) s.hand
+  pub own : AreOwn s.reading (spots_of s) (length s.bytes.items) s.tickets.items s.pins.items (waiting_of s) s.hand
   pub counted : AreCounted s.reading.block_size (length s.bytes.items) s.tickets.items (waiting_of s) s.hand s.counts s.served s.met
-  pub sound : IsSound told files s.reading s.piece s.bytes.items (waiting_of s) s.hand s.met
+  pub size_is : s.size ≡ s.reading.size
+  pub sound : IsSound told files s.reading s.pieces s.bytes.items (waiting_of s) s.hand s.met
   pub staged : IsStaged (length s.bytes.items) s.tickets.items (waiting_of s) s.hand s.counts.failed s.met
   pub roomy : IsRoomy s

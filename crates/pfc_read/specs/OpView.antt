@@ -1,8 +1,8 @@
 -- What contracts see of a read.
 use Rattle.std.specs.Prelude.{ℕ, ◌+◌, List, Option, Some, None, sum_by}
 use Rattle.pfc_base.specs.declared.block.Part.{Part}
-use Rattle.pfc_base.specs.declared.block.Piece.{Piece}
 use Rattle.pfc_log.specs.declared.entry.Fell.{Fell}
+use Rattle.pfc_span.specs.declared.pieces.Pieces.{Pieces}
 use Rattle.pfc_core.specs.Marks.{Mark}
 
 -- the action that was given last, where it isn't supplied yet
@@ -20,7 +20,7 @@ pub data Given : Type 0 where
 -- how many wait for a flight, and for how many a leave came. How many flights of its own failed, and what came first of all
 -- that keeps it from data.
 pub record OpView : Type 0 where
-  pub piece : Piece
+  pub pieces : Pieces
   pub reading : Mark
   pub tickets : List Mark
   pub pins : List Mark

@@ -1,10 +1,11 @@
 -- The plan of a read.
 use Rattle.std.specs.Prelude.{◌≡◌, ◌+◌, ◌⊎◌, ◌==◌, ℕ, false, List, [], ◌∷◌, ◌++◌, length, Some, None, sum_by}
 use Rattle.pfc_base.specs.declared.block.Part.{Part}
-use Rattle.pfc_base.specs.declared.block.Piece.{Piece}
 use Rattle.pfc_log.specs.declared.entry.Fell.TheVariants.{Memory}
 use Rattle.pfc_log.specs.Tallies.{Tally, tally}
-use Rattle.pfc_span.specs.Tiling.{Tiles}
+use Rattle.pfc_span.specs.declared.pieces.Pieces.{Pieces}
+use Rattle.pfc_span.specs.Pieces.{pieces_in}
+use Rattle.pfc_span.specs.Tiling.{TileInTurn}
 use Rattle.pfc_core.specs.declared.token.Decision.{Decision}
 use Rattle.pfc_core.specs.Calls.{Begins, Decides}
 use Rattle.pfc_core.specs.Marks.{Mark}
@@ -20,17 +21,17 @@ DecidesAll old n (part ∷ parts) new = (decision : Decision (Unit {0})) × (mid
 abbrev pub with_asked : Tally → ℕ → ℕ → ℕ → Tally
 with_asked t hits waits directs = record t { hits = t.hits + hits; waits = t.waits + waits; directs = t.directs + directs }
 
--- The reading begins, and then the parts that tile the piece are decided in order, up to one that is refused for want of
--- memory. The client's tally has a hit, a wait or a direct read more for each, and no other tally changes.
-pub record Plans (old : CoreView) (n : ℕ) (piece : Piece) (op : OpView) (new : CoreView) : Type 0 where
-  pub piece_is : op.piece ≡ piece
+-- The reading begins, and then the parts that give the pieces in turn are decided in order, up to one that is refused for want
+-- of memory. A block that several pieces touch is decided once for each part. The client's tally has a hit, a wait or a direct read more for each, and no other tally changes.
+pub record Plans (old : CoreView) (n : ℕ) (pieces : Pieces) (op : OpView) (new : CoreView) : Type 0 where
+  pub pieces_is : op.pieces ≡ pieces
   pub idle : op.given ≡ Nothing
   pub failed_is : op.failed ≡ 0
   pub leaves_is : op.leaves ≡ op.directs
   pub met_is : (op.met ≡ None) ⊎ (op.met ≡ Some Memory)
   pub decided : List Part
   pub rest : List Part
-  pub tiles : Tiles old.size old.block_size piece (decided ++ rest)
+  pub tiles : TileInTurn old.size old.block_size (pieces_in pieces) (decided ++ rest)
   pub all : op.met ≡ None → rest ≡ []
   pub number : op.hits + op.waits + op.directs ≡ length decided
   pub looks_is : op.looks + length op.disks + op.leaves ≡ length decided

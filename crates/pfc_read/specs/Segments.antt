@@ -1,5 +1,5 @@
 -- Segments of a reply, weighed.
-use Rattle.std.specs.Prelude.{◌≡◌, ◌+◌, ◌*◌, ◌≤◌, ℕ, ◌&&◌, nat_le, nat_lt, if◌then◌else◌, List, sum_by}
+use Rattle.std.specs.Prelude.{◌≡◌, ◌+◌, ◌*◌, ◌<◌, ◌≤◌, ℕ, ◌&&◌, nat_le, nat_lt, if◌then◌else◌, List, sum_by}
 use Rattle.pfc_base.specs.Block.{IsPartOf}
 use Rattle.pfc_log.specs.declared.entry.Served.{Served}
 use Rattle.pfc_core.specs.Marks.{Mark}
@@ -12,10 +12,10 @@ use Rattle.pfc_read.specs.declared.segment.Found.{Found}
 use Rattle.pfc_read.specs.declared.segment.Owed.{Owed}
 use Rattle.pfc_read.specs.declared.segment.Pending.{Pending}
 
--- the segment lies in the reply where its part lies in the piece
-pub record IsPlaced (size k off total : ℕ) (s : Segment) : Type 0 where
+-- the segment lies inside the reply, and each of its bytes stands where this says in the file, by its place in the reply
+pub record IsPlaced (size k : ℕ) (spot_at : ℕ → ℕ) (total : ℕ) (s : Segment) : Type 0 where
   pub part_of : IsPartOf size k s.part
-  pub place : s.part.block * k + s.part.from ≡ off + s.at
+  pub place : (x : ℕ) → x < s.part.len → s.part.block * k + s.part.from + x ≡ spot_at (s.at + x)
   pub within : s.at + s.part.len ≤ total
 
 abbrev pub len_in : Segment → ℕ

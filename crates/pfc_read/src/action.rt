@@ -1,6 +1,7 @@
 use pfc_base::Part;
 use pfc_core::{Leave, OnDisk, Pin, Ticket};
 use pfc_log::{Fell, Served};
+use pfc_span::Pieces;
 use pfc_world::World;
 
 /// What is to be done next for a read.
@@ -41,10 +42,16 @@ pub enum Saw {
 }
 
 /// How a read ended.
-#[derive(Debug, Drop)]
+#[derive(Drop)]
 pub enum Answer {
-    /// With data, and where its bytes came from.
-    Bytes { bytes: Vec<u8>, served: Served },
+    /// With data: the bytes of the pieces, one behind the other; the pieces and the file's size, which tell how many bytes
+    /// each piece has; and where the bytes came from.
+    Bytes {
+        bytes: Vec<u8>,
+        pieces: Pieces,
+        size: u64,
+        served: Served,
+    },
     /// The origin failed, before anything else was missing.
     Fetch,
     /// Memory was refused, before the origin failed.

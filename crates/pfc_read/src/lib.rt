@@ -1,4 +1,4 @@
-//! One read of one piece of a file: which parts it has, what is to be done for each, and the reply.
+//! One read of pieces of a file: which parts they have, what is to be done for each, and the reply.
 #![tactic(auto)]
 
 mod action;

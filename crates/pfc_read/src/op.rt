@@ -1,6 +1,7 @@
 // One read, from its plan to its end.
-ghost use Rattle.std.specs.Prelude.{◌≡◌, ◌<◌, ◌≤◌, ◌-◌, ◌^◌, [], min, map, vec_len, OnErr, IfOk};
-ghost use Rattle.pfc_span.specs.Tiling.{Tiles};
+ghost use Rattle.std.specs.Prelude.{◌≡◌, ◌<◌, ◌≤◌, ◌^◌, [], map, length, vec_len, OnErr, IfOk};
+ghost use Rattle.pfc_span.specs.Pieces.{pieces_in, asked_of, total_of};
+ghost use Rattle.pfc_span.specs.Tiling.{TileInTurn};
 ghost use Rattle.pfc_read.specs.OpView.{Nothing, ToRun, first_met};
 ghost use Rattle.pfc_read.specs.Plans.{Plans};
 ghost use Rattle.pfc_read.specs.Steps.{Gives, Supplies};
@@ -15,15 +16,17 @@ use crate::segment::{Counts, Found, Hand, Owed, Pending};
 use pfc_base::{Memory, Part, Piece};
 use pfc_core::{FileCore, OnDisk, Pin, Reading, Ticket};
 use pfc_log::{Fell, Served};
-use pfc_span::parts;
+use pfc_span::{Pieces, parts, total};
 use pfc_world::World;
 use std::alloc::{AllocError, Global};
 use std::marker::Model;
 
-/// One client's read of one piece of a file. It tells what is to be done next, one action at a time, and is told what came
+/// One client's read of pieces of a file, whose reply is their bytes, one behind the other. It tells what is to be done next, one action at a time, and is told what came
 /// of it, until it ends. It must be ended by `finish`.
 pub struct ReadOp<W: World> {
-    piece: Piece,
+    pieces: Pieces,
+    /// The file's, for the answer.
+    size: u64,
     reading: Reading<W>,
     bytes: Vec<u8>,
     tickets: Vec<Ticket<W>>,
@@ -58,22 +61,24 @@ fn zeros(alloc: Global, len: usize) -> Result<Vec<u8>, AllocError>
     vec![in alloc; 0u8; len]
 }
 
-/// The parts of a piece, and its reply, to be filled.
+/// The parts of these pieces, and their reply, to be filled.
 fn lay_out(
     alloc: Global,
-    piece: Piece,
+    pieces: &[Piece],
     size: u64,
     k: u64,
 ) -> Result<(Vec<(u32, Part)>, Vec<u8>), Memory>
-    requires piece { piece.len ≤ 16777216 }
+    requires pieces { asked_of pieces.now ≤ 16777216 }
+    requires few { length pieces.now ≤ 1024 }
     requires size { size < 2 ^ 44 }
     requires least { 4096 ≤ k }
     requires most { k ≤ 16777216 }
-    ensures parts { IfOk result (λ r. Tiles size k piece (map (λ x. x.1) r.0.items)) }
-    ensures bytes { IfOk result (λ r. vec_len r.1 ≡ min piece.len (size - piece.off)) }
+    ensures parts { IfOk result (λ r. TileInTurn size k pieces.now (map (λ x. x.1) r.0.items)) }
+    ensures bytes { IfOk result (λ r. vec_len r.1 ≡ total_of size pieces.now) }
+    ensures within { IfOk result (λ r. vec_len r.1 ≤ 16777216) }
 {
-    let parts = parts(alloc, &[piece], size, k)?;
-    let len = piece.len.min(size.saturating_sub(piece.off));
+    let parts = parts(alloc, pieces, size, k)?;
+    let len = total(pieces, size);
     let bytes = zeros(alloc, len as usize)?;
     Ok((parts, bytes))
 }
@@ -89,21 +94,22 @@ fn first(met: Option<Fell>, why: Fell) -> Option<Fell>
 }
 
 impl<W: World> ReadOp<W> {
-    /// A read of a piece for a client. Its parts are asked for in the order of the file; where memory is refused after the
-    /// first was asked for, the read goes on to its end and answers so. All that it needs later is taken here.
+    /// A read of pieces for a client. Their parts are asked for piece by piece and in the order of the file; where memory is
+    /// refused after the first was asked for, the read goes on to its end and answers so. All that it needs later is taken
+    /// here.
     pub fn plan(
         alloc: Global,
         core: &mut FileCore<W>,
         n: u32,
-        piece: Piece,
+        pieces: Pieces,
     ) -> Result<ReadOp<W>, Memory>
-        requires piece { piece.len ≤ 16777216 }
+        requires pieces { asked_of (pieces_in pieces) ≤ 16777216 }
         requires least { 4096 ≤ core.old.block_size }
         ensures memory { OnErr result (core.new ≡ core.old) }
-        ensures ok { IfOk result (λ op. Plans core.old n piece op core.new) }
+        ensures ok { IfOk result (λ op. Plans core.old n pieces op core.new) }
     {
         let size = core.known().size();
-        let (parts, bytes) = lay_out(alloc, piece, size, core.block_size())?;
+        let (parts, bytes) = lay_out(alloc, pieces.as_slice(), size, core.block_size())?;
         let pins = Vec::with_capacity(alloc, parts.len())?;
         let mut draft = Draft::new(alloc, parts.len())?;
         let Ok(unread) = Vec::with_capacity(alloc, parts.len()) else {
@@ -124,7 +130,8 @@ impl<W: World> ReadOp<W> {
             counts,
         } = draft;
         Ok(ReadOp {
-            piece,
+            pieces,
+            size,
             reading,
             bytes,
             tickets,

@@ -3,6 +3,7 @@ ghost use Rattle.std.specs.Prelude.{◌≡◌, ◌≤◌, length, IfOk, MatchBoo
 ghost use Rattle.pfc_read.specs.OpView.{Nothing, ToEnd};
 
 mod disk;
+mod pieces;
 
 use crate::{Action, Answer, Done, ReadOp};
 use pfc_base::{BlockSet, Path, Piece, block_count};
@@ -10,6 +11,7 @@ use pfc_cinfo::{Head, Records};
 use pfc_core::{FileCore, Flight, Line, Strayed, Ticket};
 use pfc_log::{Fell, Served, push_log};
 use pfc_memory::{MemoryHost, MemoryLink, RowWorld};
+use pfc_span::{Pieces, asked};
 use pfc_world::{Host, Known};
 use std::alloc::Global;
 use std::process::Abort;
@@ -172,7 +174,7 @@ fn end(
 ) -> Answer
     requires { op.given ≡ Nothing }
 {
-    for _ in 0..16 {
+    for _ in 0..2048 {
         if step(rt, alloc, core, line, &mut op, kinds) {
             return op.finish(core);
         }
@@ -186,14 +188,15 @@ fn read(
     alloc: Global,
     core: &mut Core,
     line: &mut RowLine,
-    piece: Piece,
-) -> Result<Answer, Fail>
-    requires { piece.len ≤ 16777216 }
-{
+    pieces: Pieces,
+) -> Result<Answer, Fail> {
     if core.block_size() < 4096 {
         return Err(Fail::new("small blocks"));
     }
-    let op = ReadOp::plan(alloc, core, 1, piece)?;
+    if asked(pieces.as_slice()) > 16777216 {
+        return Err(Fail::new("too many bytes"));
+    }
+    let op = ReadOp::plan(alloc, core, 1, pieces)?;
     Ok(end(rt, alloc, core, line, op, &mut Vec::new(alloc)))
 }
 
@@ -245,7 +248,12 @@ const CASES: &[Case] = &[
 /// Whether the answer is what the case wants.
 fn is_wanted(case: &Case, answer: &Answer) -> bool {
     match answer {
-        Answer::Bytes { bytes, served } => {
+        Answer::Bytes {
+            bytes,
+            pieces: _,
+            size: _,
+            served,
+        } => {
             let (hit, missed, bypassed) = case.served;
             let wanted = Served {
                 hit,
@@ -265,10 +273,17 @@ fn one_client_reads(rt: HostRuntime) -> Result<(), Fail> {
     for case in CASES {
         let mut line = line_of(alloc, case.fails)?;
         let mut core = core_of(alloc, &mut line)?;
-        let answer = read(&rt, alloc, &mut core, &mut line, case.piece)?;
+        let answer = read(&rt, alloc, &mut core, &mut line, Pieces::One(case.piece))?;
         assert!(rt; is_wanted(case, &answer), "{}", case.shows);
     }
     Ok(())
+}
+
+/// Whether the log of the core has this text.
+fn has_log(alloc: Global, core: &Core, text: &[u8]) -> Result<bool, Fail> {
+    let mut log = Vec::new(alloc);
+    push_log(alloc, &mut log, core.known().path(), core.log())?;
+    Ok(log.as_slice() == text)
 }
 
 /// What clients 1 and 2 get who ask for byte 7 one after the other, before the flight has ended; and the log.
@@ -276,8 +291,8 @@ fn share(rt: &impl Abort, alloc: Global, fails: &[u64]) -> Result<(Answer, Answe
     let mut line = line_of(alloc, fails)?;
     let mut core = core_of(alloc, &mut line)?;
     let piece = Piece { off: 7, len: 1 };
-    let first = ReadOp::plan(alloc, &mut core, 1, piece)?;
-    let second = match ReadOp::plan(alloc, &mut core, 2, piece) {
+    let first = ReadOp::plan(alloc, &mut core, 1, Pieces::One(piece))?;
+    let second = match ReadOp::plan(alloc, &mut core, 2, Pieces::One(piece)) {
         Ok(op) => op,
         Err(_) => panic!(rt; "no memory"),
     };
@@ -293,7 +308,13 @@ fn share(rt: &impl Abort, alloc: Global, fails: &[u64]) -> Result<(Answer, Answe
 fn two_clients_share_a_flight(rt: HostRuntime) -> Result<(), Fail> {
     let (first, second, log) = share(&rt, rt.alloc(), &[])?;
     for answer in [&first, &second] {
-        let Answer::Bytes { bytes, served } = answer else {
+        let Answer::Bytes {
+            bytes,
+            pieces: _,
+            size: _,
+            served,
+        } = answer
+        else {
             return Err(Fail::new("no data"));
         };
         assert_eq!(rt; bytes.as_slice(), [7].as_slice());
@@ -312,7 +333,13 @@ fn the_second_client_of_a_failed_flight_reads_from_the_origin(rt: HostRuntime) -
     let Answer::Fetch = first else {
         return Err(Fail::new("the first client's flight failed"));
     };
-    let Answer::Bytes { bytes, served } = second else {
+    let Answer::Bytes {
+        bytes,
+        pieces: _,
+        size: _,
+        served,
+    } = second
+    else {
         return Err(Fail::new("no data"));
     };
     assert_eq!(rt; bytes.as_slice(), [7].as_slice());
@@ -331,8 +358,14 @@ fn a_block_in_memory_is_hit(rt: HostRuntime) -> Result<(), Fail> {
     let mut core = core_of(alloc, &mut line)?;
     let piece = Piece { off: 4096, len: 2 };
     for wanted in [0u64, 2] {
-        let answer = read(&rt, alloc, &mut core, &mut line, piece)?;
-        let Answer::Bytes { bytes, served } = answer else {
+        let answer = read(&rt, alloc, &mut core, &mut line, Pieces::One(piece))?;
+        let Answer::Bytes {
+            bytes,
+            pieces: _,
+            size: _,
+            served,
+        } = answer
+        else {
             return Err(Fail::new("no data"));
         };
         assert_eq!(rt; bytes.as_slice(), [0x50, 0x51].as_slice());

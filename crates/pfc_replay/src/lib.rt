@@ -23,3 +23,5 @@ mod restart_cases;
 mod shared_cases;
 #[cfg(test)]
 mod tests;
+#[cfg(test)]
+mod vector_cases;

@@ -1,15 +1,17 @@
 //! Runs of several clients over the world of rows, made by a model of the program that shares no code with it.
 use crate::outside::{empty_depot, host_of, run_over, words_of};
 use pfc_memory::VecSink;
+use std::alloc::Global;
+use std::process::Abort;
 use std::test::Fail;
 
 /// What one run is to leave, in blocks of 4096 bytes: what it wrote, and the calls and faults of each client's link.
-struct SharedCase {
-    schedule: &'static str,
+pub(crate) struct SharedCase {
+    pub schedule: &'static str,
     /// The calls that fail: the link's number and the call's, from 0 on.
-    fails: &'static [(u32, u64)],
-    text: &'static str,
-    spent: &'static [(u32, u64, u64)],
+    pub fails: &'static [(u32, u64)],
+    pub text: &'static str,
+    pub spent: &'static [(u32, u64, u64)],
 }
 
 /// The runs. The status of each is 0.
@@ -143,11 +145,10 @@ const CASES: &[SharedCase] = &[
     },
 ];
 
-#[test]
-fn clients_share_fetches_in_the_order_of_the_schedule(rt: HostRuntime) -> Result<(), Fail> {
-    let alloc = rt.alloc();
+/// Makes each run, and compares what it leaves.
+pub(crate) fn check_runs(rt: &impl Abort, alloc: Global, cases: &[SharedCase]) -> Result<(), Fail> {
     let words = words_of(alloc, "config origin cache 100000 schedule")?;
-    for case in CASES {
+    for case in cases {
         let mut host = host_of(alloc, "pfc.blocksize 4k\n", case.schedule, case.fails)?;
         let mut depot = empty_depot(alloc, &[], None)?;
         let mut out = VecSink::new(alloc, Vec::new(alloc));
@@ -159,4 +160,9 @@ fn clients_share_fetches_in_the_order_of_the_schedule(rt: HostRuntime) -> Result
         }
     }
     Ok(())
+}
+
+#[test]
+fn clients_share_fetches_in_the_order_of_the_schedule(rt: HostRuntime) -> Result<(), Fail> {
+    check_runs(&rt, rt.alloc(), CASES)
 }

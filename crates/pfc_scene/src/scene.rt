@@ -108,11 +108,11 @@ impl<W: World, O: Origin<W>, P: Depot<W>> Scene<W, O, P> {
     }
 
     /// The client at this place steps on no core.
-    pub(crate) fn step_alone(&mut self, j: usize)
+    pub(crate) fn step_alone(&mut self, alloc: Global, j: usize)
         requires { j < length self.old.clients }
         ensures { Moves self.old self.new }
     {
-        self.clients[j].step_alone();
+        self.clients[j].step_alone(alloc);
     }
 
     /// The client at this place finds no memory for a core of the file that it wants.

@@ -16,7 +16,7 @@ impl<W: World, O: Origin<W>, P: Depot<W>> Scene<W, O, P> {
         ensures { Moves self.old self.new }
     {
         match self.clients[j].place() {
-            Place::Alone => self.step_alone(j),
+            Place::Alone => self.step_alone(alloc, j),
             Place::Wants => self.enter(alloc, j),
             Place::Enters => (),
             Place::Puts => self.put(j),

@@ -1,2 +1,3 @@
 mod Cuts
 mod Placed
+pub mod Spots

@@ -12,6 +12,10 @@ use Rattle.pfc_span.specs.Tiling.{Tiles, TileEach, parts_of}
 abbrev pub beside : ℕ → List Part → List (ℕ × Part)
 beside place parts = map (λ part. (place, part)) parts
 
+pub parts-beside : (place : ℕ) (parts : List Part) → map (λ x. x.1) (beside place parts) ≡ parts
+parts-beside place [] = refl
+parts-beside place (part ∷ parts) = ap (λ ps. part ∷ ps) (parts-beside place parts)
+
 parts_of-beside_same : (place : ℕ) (parts : List Part) → parts_of place (beside place parts) ≡ parts
 parts_of-beside_same place [] = refl
 parts_of-beside_same place (part ∷ parts) =

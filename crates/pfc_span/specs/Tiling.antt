@@ -1,9 +1,10 @@
 -- Parts that tile the pieces of a request.
-use Rattle.std.specs.Prelude.{◌≡◌, ◌==◌, ℕ, ◌+◌, ◌-◌, ◌*◌, ◌<◌, ◌≤◌, min, List, length, take, map, filter, Some, slice_get, slice_index_or, sum_by, All, AllPairs}
+use Rattle.std.specs.Prelude.{◌≡◌, ◌==◌, ℕ, ◌+◌, ◌*◌, ◌<◌, ◌≤◌, List, length, take, map, filter, Some, slice_get, slice_index_or, sum_by, All, AllPairs}
 use Rattle.std.specs.List.{flat_map}
 use Rattle.pfc_base.specs.Block.{slice_of, block_of, IsPartOf}
 use Rattle.pfc_base.specs.declared.block.Part.{Part}
 use Rattle.pfc_base.specs.declared.block.Piece.{Piece}
+use Rattle.pfc_span.specs.Pieces.{piece_len, total_of, spot}
 
 -- the bytes of a part: a slice of its block
 abbrev pub bytes_of_part : List ℕ → ℕ → Part → List ℕ
@@ -21,8 +22,19 @@ AreInRow k off parts = (i : ℕ) (d : Part) → i < length parts → (slice_inde
 pub record Tiles (size k : ℕ) (piece : Piece) (parts : List Part) : Type 0 where
   pub inside : All (IsPartOf size k) parts
   pub row : AreInRow k piece.off parts
-  pub whole : sum_by part_len parts ≡ min piece.len (size - piece.off)
+  pub whole : sum_by part_len parts ≡ piece_len size piece
   pub bytes : (file : List ℕ) → length file ≡ size → flat_map (bytes_of_part file k) parts ≡ slice_of file piece.off piece.len
+
+-- each byte of the parts, one behind the other, stands in the file at the spot of its place in the reply
+abbrev pub AreAtSpots : ℕ → ℕ → List Piece → List Part → Type 0
+AreAtSpots size k pieces parts = (i : ℕ) (d : Part) (x : ℕ) → i < length parts → x < (slice_index_or parts i d).len →
+    (slice_index_or parts i d).block * k + (slice_index_or parts i d).from + x ≡ spot size pieces (sum_by part_len (take i parts) + x)
+
+-- read one behind the other, the parts give the reply to these pieces, each from inside a block
+pub record TileInTurn (size k : ℕ) (pieces : List Piece) (parts : List Part) : Type 0 where
+  pub inside : All (IsPartOf size k) parts
+  pub spots : AreAtSpots size k pieces parts
+  pub whole : sum_by part_len parts ≡ total_of size pieces
 
 -- the parts beside the place of one piece
 abbrev pub parts_of : ℕ → List (ℕ × Part) → List Part

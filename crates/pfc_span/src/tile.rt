@@ -1,7 +1,7 @@
 // Pieces of a file, cut at the ends of its blocks.
 ghost use Rattle.std.specs.Prelude.{◌≡◌, ◌<◌, ◌≤◌, ◌^◌, ◌++◌, List, length, map, IfOk, OnOk};
 ghost use Rattle.pfc_base.specs.declared.block.Part.{Part};
-ghost use Rattle.pfc_span.specs.Tiling.{Tiles, TileEach};
+ghost use Rattle.pfc_span.specs.Tiling.{Tiles, TileEach, TileInTurn};
 
 use pfc_base::{Memory, Part, Piece};
 use std::alloc::Global;
@@ -48,7 +48,8 @@ pub fn parts(alloc: Global, pieces: &[Piece], size: u64, k: u64) -> Result<Vec<(
     requires least { 4096 ≤ k }
     requires most { k ≤ 16777216 }
     requires pieces { length pieces.now < 2 ^ 32 }
-    ensures { IfOk result (λ placed. TileEach size k pieces.now placed.items) }
+    ensures each { IfOk result (λ placed. TileEach size k pieces.now placed.items) }
+    ensures turn { IfOk result (λ placed. TileInTurn size k pieces.now (map (λ x. x.1) placed.items)) }
 {
     let mut placed = Vec::new(alloc);
     for (i, piece) in pieces.iter().enumerate() {

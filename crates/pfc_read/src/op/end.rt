@@ -1,6 +1,7 @@
 // The end of a read.
 ghost use Rattle.std.specs.Prelude.{◌≡◌, ◌+◌, ◌≤◌, ◌<◌, ℕ, [], ◌++◌, length, map, reverse, vec_capacity, OnOk, All, Some, IsTrue, ◌↔◌};
 ghost use Rattle.pfc_log.specs.declared.entry.Fell.TheVariants as fell;
+ghost use Rattle.pfc_span.specs.Pieces.{pieces_in, asked_of};
 ghost use Rattle.pfc_world.specs.Files.{HasSize};
 ghost use Rattle.pfc_core.specs.Marks.{TicketKind, PinKind, DiskKind};
 ghost use Rattle.pfc_read.specs.OpView.{ToEnd};
@@ -91,9 +92,9 @@ impl<W: World> ReadOp<W> {
         ensures disks { All (IsTokenOf self.now.reading DiskKind) self.now.disks }
         ensures least { 4096 ≤ self.now.reading.block_size }
         ensures most { self.now.reading.block_size ≤ 16777216 }
-        ensures short { self.now.piece.len ≤ 16777216 }
+        ensures short { asked_of (pieces_in self.now.pieces) ≤ 16777216 }
         ensures right { HasSize W.told W.files self.now.reading.path self.now.reading.size }
-        ensures few { self.now.failed ≤ self.now.piece.len }
+        ensures few { self.now.failed ≤ asked_of (pieces_in self.now.pieces) }
         ensures hurt { 0 < self.now.failed → self.now.met ≡ None → ⊥ }
         ensures fetch { self.now.met ≡ Some fell.Fault → 0 < op_len self.now }
     {
@@ -110,7 +111,8 @@ impl<W: World> ReadOp<W> {
     /// Ends a read that no core takes.
     pub fn discard(self) {
         let ReadOp {
-            piece: _,
+            pieces: _,
+            size: _,
             reading,
             bytes: _,
             tickets,
@@ -139,7 +141,8 @@ impl<W: World> ReadOp<W> {
         ensures right { HasSize W.told W.files self.reading.path self.reading.size }
     {
         let ReadOp {
-            piece: _,
+            pieces,
+            size,
             reading,
             bytes,
             tickets,
@@ -160,7 +163,12 @@ impl<W: World> ReadOp<W> {
         match met {
             None => {
                 give_back(core, reading, pins, disks, Some(served));
-                Answer::Bytes { bytes, served }
+                Answer::Bytes {
+                    bytes,
+                    pieces,
+                    size,
+                    served,
+                }
             }
             Some(Fell::Fault) => {
                 give_back(core, reading, pins, disks, None);

@@ -1,9 +1,10 @@
 //! Reads of a file that isn't cached, and of one whose block 0 is on disk, over bytes 4095 and 4096.
-use super::{Core, Kind, RowLine, core_with, end, known_of, line_of};
+use super::{Core, Kind, RowLine, core_with, end, has_log, known_of, line_of};
 use crate::{Answer, ReadOp};
 use pfc_base::Piece;
 use pfc_core::FileCore;
-use pfc_log::{Served, Uncached, push_log};
+use pfc_log::{Served, Uncached};
+use pfc_span::Pieces;
 use std::alloc::Global;
 use std::process::Abort;
 use std::test::Fail;
@@ -37,19 +38,15 @@ const ALL: Came = Came {
 /// Whether the answer has the two bytes, by where they came from.
 fn is_wanted(answer: &Answer, wanted: Option<Served>) -> bool {
     match answer {
-        Answer::Bytes { bytes, served } => {
-            bytes.as_slice() == [0x4f, 0x50].as_slice() && Some(*served) == wanted
-        }
+        Answer::Bytes {
+            bytes,
+            pieces: _,
+            size: _,
+            served,
+        } => { bytes.as_slice() == [0x4f, 0x50].as_slice() && Some(*served) == wanted }
         Answer::Fetch => wanted.is_none(),
         Answer::Memory => false,
     }
-}
-
-/// Whether the log of the core has this text.
-fn has_log(alloc: Global, core: &Core, text: &[u8]) -> Result<bool, Fail> {
-    let mut log = Vec::new(alloc);
-    push_log(alloc, &mut log, core.known().path(), core.log())?;
-    Ok(log.as_slice() == text)
 }
 
 /// Reads the two bytes to the end.
@@ -64,7 +61,8 @@ fn reads(
         return Err(Fail::new("small blocks"));
     }
     let mut kinds = Vec::new(alloc);
-    let op = ReadOp::plan(alloc, &mut core, 1, Piece { off: 4095, len: 2 })?;
+    let pieces = Pieces::One(Piece { off: 4095, len: 2 });
+    let op = ReadOp::plan(alloc, &mut core, 1, pieces)?;
     let answer = end(rt, alloc, &mut core, &mut line, op, &mut kinds);
     Ok(Came {
         kinds: kinds.as_slice() == wanted.kinds,

@@ -13,10 +13,10 @@ pub returns-in-Ok-clause-work : goal.returns-in-Ok-clause-work
 returns-in-Ok-clause-work g c =
     let plans = c.in-Ok.ensures.ok in let stay = c.requires.work.0 in let reads = c.requires.work.1 in
     let held = placed_weighs (sees stay) c.args.book.now.stays c.args.number stay reads.is_open in
-    let file = of_file c.args.book.now (st.Planning c.args.number c.args.piece) c.args.core.now stay c.requires.knows (c.requires.here stay reads.is_open) (omega (arith, held)) in record {
+    let file = of_file c.args.book.now (st.Planning c.args.number c.args.pieces) c.args.core.now stay c.requires.knows (c.requires.here stay reads.is_open) (omega (arith, held)) in record {
       number = c.args.number;
       stay = stay;
-      reads = rw plans.piece_is reads;
+      reads = rw plans.pieces_is reads;
       path_is = plans.begins.reads.path_is ∙ sym file.path_is;
       size_is = plans.begins.reads.size_is ∙ sym file.size_is;
       client_is = plans.begins.reads.client_is ∙ c.number.ensures;

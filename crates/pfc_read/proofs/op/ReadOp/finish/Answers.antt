@@ -8,8 +8,12 @@ use Rattle.pfc_read.proofs.op.ReadOp.finish.Goals as goal
 pub returns-in-None-clause-answer : goal.returns-in-None-clause-answer
 returns-in-None-clause-answer g c =
     let s = c.self.inside in
-    let ended : given_of s.hand ≡ ToEnd = ap (λ (v : OpView). v.given) c.self.view_is ∙ c.requires in
-    (ap (λ (v : OpView). v.met) (sym c.self.view_is) ∙ c.in-None.is, subst (λ v. IsData g.W.World.told g.W.World.files v s.bytes.items s.served) c.self.view_is (data-of g.W.World.told g.W.World.files s ended c.in-None.is c.self.invariant))
+    let ended : given_of s.hand ≡ ToEnd = ap (λ (v : OpView). v.given) c.self.view_is ∙ c.requires in (
+      ap (λ (v : OpView). v.met) (sym c.self.view_is) ∙ c.in-None.is,
+      ap (λ (v : OpView). v.pieces) c.self.view_is,
+      c.self.invariant.size_is ∙ ap (λ (v : OpView). v.reading.size) c.self.view_is,
+      subst (λ v. IsData g.W.World.told g.W.World.files v s.bytes.items s.served) c.self.view_is (data-of g.W.World.told g.W.World.files s ended c.in-None.is c.self.invariant),
+    )
 
 pub returns-in-None-clause-core : goal.returns-in-None-clause-core
 returns-in-None-clause-core g c =

@@ -3,7 +3,7 @@ use Rattle.std.proofs.lemmas.List.{nil_from_length}
 use Rattle.pfc_read.specs.declared.segment.Hand.TheVariants as hand
 use Rattle.pfc_read.specs.OpView.{OpView, Nothing, ToRead}
 use Rattle.pfc_read.specs.Segments.{pin_in, disk_in}
-use Rattle.pfc_read.specs.Kept.{given_of, view_of}
+use Rattle.pfc_read.specs.Kept.{given_of, spots_of, view_of}
 use Rattle.pfc_read.proofs.Hands.{last-long, kept-look, kept-looked, kept-read, kept-end, pins-look, disks-read, found-part}
 use Rattle.pfc_read.proofs.op.ReadOp.next_part.Goals as goal
 
@@ -56,7 +56,7 @@ returns-in-Some-pop g c =
       looked = ap length (pendings ∙ none);
       whole = let z : s.counts.failed ≡ 0 = omega (arith, c.if-self-gt0.false) in z;
       disk_for = is.disk_for;
-      part_of = found-part s.reading s.piece.off (length s.bytes.items) found is;
+      part_of = found-part s.reading (spots_of s) (length s.bytes.items) found is;
       loses = λ w. disks-read w s.disks.items left.items found c.in-Some-pop.ensures.items;
       rest = λ i. record (view_of s) { pins = map pin_in (sym pendings i) ++ s.pins.items; looks = length (sym pendings i); disks = map disk_in left.items; given = ToRead found.segment.part };
     })
