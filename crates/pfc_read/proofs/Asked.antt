@@ -17,8 +17,6 @@ use Rattle.pfc_read.specs.declared.segment.Counts.{Counts}
 use Rattle.pfc_read.specs.declared.segment.Source.{Source}
 use Rattle.pfc_read.specs.declared.segment.Source.TheVariants as source
 use Rattle.pfc_read.specs.declared.segment.Segment.{Segment}
-use Rattle.pfc_read.specs.declared.segment.Found.{Found}
-use Rattle.pfc_read.specs.declared.segment.Pending.{Pending}
 use Rattle.pfc_read.specs.declared.draft.Draft.{Draft}
 use Rattle.pfc_read.specs.Segments.{IsPlaced, len_in, covers, len_from, Waiting, weigh, pin_in, disk_in}
 use Rattle.pfc_read.specs.Draft.{segment_at, tickets_of, pendings_of, disks_of, owed_of, hits_of, waits_of, directs_of, waiting_in, IsAsked, IsStored, IsSent, AreAll, Asks, IsTurned, StandAt, AreAsked}

@@ -13,8 +13,7 @@ use Rattle.pfc_world.specs.Files.{Files, file_at}
 use Rattle.pfc_span.specs.Pieces.{pieces_in}
 use Rattle.pfc_span.proofs.Spots.{bytes-of_spots}
 use Rattle.pfc_core.specs.Calls.{Unpins}
-use Rattle.pfc_core.specs.Disks.{EndsDisk}
-use Rattle.pfc_core.specs.Finishes.{Releases, ReleasesAll, ReleasesDisk, ReleasesDisks, served_entries, Ends, Finishes}
+use Rattle.pfc_core.specs.Finishes.{Releases, ReleasesAll, ReleasesDisk, ReleasesDisks, served_entries, Finishes}
 use Rattle.pfc_core.specs.Leaves.{leaves}
 use Rattle.pfc_core.specs.Marks.{Kind, Mark, PinKind, DiskKind, sees, listed, same}
 use Rattle.pfc_core.specs.Access.{with_read}
@@ -27,7 +26,7 @@ use Rattle.pfc_read.specs.declared.segment.Found.{Found}
 use Rattle.pfc_read.specs.declared.segment.Pending.{Pending}
 use Rattle.pfc_read.specs.declared.op.ReadOp.TheInside.{Inside}
 use Rattle.pfc_read.specs.OpView.{ToEnd, OpView}
-use Rattle.pfc_read.specs.Segments.{covers, len_in, len_from, pin_in, disk_in, in_pending, in_found, in_owed}
+use Rattle.pfc_read.specs.Segments.{covers, len_in, pin_in, disk_in, in_pending, in_found, in_owed}
 use Rattle.pfc_read.specs.Steps.{IsTokenOf}
 use Rattle.pfc_read.specs.Ends.{IsData, with_served, Knows, GivesBack, EndsRead}
 use Rattle.pfc_read.specs.Kept.{given_of, weight_in, spots_of, waiting_of, view_of, IsKept, IsFit, IsFound}

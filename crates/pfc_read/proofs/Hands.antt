@@ -6,7 +6,6 @@ use Rattle.std.proofs.lemmas.List.Elements.{All-pop}
 use Rattle.std.proofs.lemmas.List.Sums.{sum_by-append, sum_by_push}
 use Rattle.pfc_base.specs.Block.{IsPartOf}
 use Rattle.pfc_core.specs.Marks.{Mark, TicketKind}
-use Rattle.pfc_read.specs.declared.segment.Segment.{Segment}
 use Rattle.pfc_read.specs.declared.segment.Hand.{Hand}
 use Rattle.pfc_read.specs.declared.segment.Hand.TheVariants as hand
 use Rattle.pfc_read.specs.declared.segment.Found.{Found}

@@ -1,5 +1,5 @@
 -- What a read keeps when the part that is given out comes, or won't come.
-use Rattle.std.proofs.Common.{Vec, Global, ◌≡◌, ◌+◌, ◌*◌, ◌≤◌, ℕ, Bool, List, [], ◌∷◌, ◌++◌, length, refl, sym, ap, ◌∙◌, arith, subst, Option, Some, None, length-append}
+use Rattle.std.proofs.Common.{Vec, Global, ◌≡◌, ◌+◌, ◌*◌, ◌≤◌, ℕ, Bool, List, [], ◌∷◌, ◌++◌, length, refl, sym, ap, ◌∙◌, arith, subst, Option, None, length-append}
 use Rattle.std.specs.Prelude.{sum_by, All, vec_capacity}
 use Rattle.std.proofs.lemmas.List.Elements.{All-push}
 use Rattle.std.proofs.lemmas.List.Sums.{sum_by_push}
@@ -20,8 +20,8 @@ use Rattle.pfc_read.specs.declared.op.ReadOp.TheInside.{Inside}
 use Rattle.pfc_read.specs.OpView.{ToFill, ToLook, ToRead, first_met}
 use Rattle.pfc_read.specs.Segments.{IsPlaced, covers, Waiting, weigh, in_pending, in_owed, in_hand, with_part, owed_segment}
 use Rattle.pfc_read.specs.Steps.{IsTokenOf, IsLeaveOf, IsPinFor}
-use Rattle.pfc_read.specs.Kept.{spots_of, waiting_of, weight_in, is_look, is_open, AreOwn, AreCounted, IsSound, IsKept, IsFit, IsOwed}
-use Rattle.pfc_read.proofs.Weights.{SameParts, counted-same, sound-same}
+use Rattle.pfc_read.specs.Kept.{spots_of, waiting_of, weight_in, AreOwn, AreCounted, IsSound, IsKept, IsFit, IsOwed}
+use Rattle.pfc_read.proofs.Weights.{SameParts, counted-same}
 use Rattle.pfc_read.proofs.Written.{IsWritten}
 use Rattle.pfc_read.proofs.Filled.{IsGiven, IsPutOff, counted-filled, counted-lacking, counted-owed, sound-written, sound-filled, sound-lacking, met-some, met-memory}
 

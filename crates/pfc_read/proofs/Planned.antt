@@ -17,14 +17,13 @@ use Rattle.pfc_core.specs.Calls.{Begins, IsOf}
 use Rattle.pfc_core.specs.Leave.{LeaveView}
 use Rattle.pfc_core.specs.Marks.{Kind, TicketKind, PinKind, DiskKind, Mark}
 use Rattle.pfc_core.specs.View.{CoreView}
-use Rattle.pfc_read.specs.declared.segment.Source.TheVariants as source
 use Rattle.pfc_read.specs.declared.segment.Segment.{Segment}
 use Rattle.pfc_read.specs.declared.segment.Hand.TheVariants as hand
 use Rattle.pfc_read.specs.declared.segment.Found.{Found}
 use Rattle.pfc_read.specs.declared.segment.Owed.{Owed}
 use Rattle.pfc_read.specs.declared.segment.Pending.{Pending}
 use Rattle.pfc_read.specs.declared.draft.Draft.{Draft}
-use Rattle.pfc_read.specs.Segments.{IsPlaced, len_in, covers, len_from, Waiting, weigh, pin_in, disk_in}
+use Rattle.pfc_read.specs.Segments.{IsPlaced, Waiting, pin_in, disk_in}
 use Rattle.pfc_read.specs.Draft.{IsAsked, IsStored, IsSent, waiting_in, StandAt, AreAsked}
 use Rattle.pfc_read.specs.Steps.{IsTokenOf}
 use Rattle.pfc_read.specs.Kept.{AreOwn, AreCounted, IsSound, IsStaged, IsFit, IsFound, IsOwed}

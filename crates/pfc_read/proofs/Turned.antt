@@ -1,14 +1,12 @@
 -- Lists that stand the other way round, and lists with more at their end, weighed.
-use Rattle.std.proofs.Common.{◌≡◌, ◌+◌, ◌-◌, ◌<◌, ℕ, List, [], ◌∷◌, ◌++◌, length, map, reverse, get_or, refl, sym, ap, ◌∙◌, arith, subst}
+use Rattle.std.proofs.Common.{◌≡◌, ◌+◌, ◌-◌, ◌<◌, ℕ, List, [], ◌∷◌, ◌++◌, length, map, reverse, refl, sym, ap, ◌∙◌, arith, subst}
 use Rattle.std.specs.Prelude.{sum_by, All}
 use Rattle.std.proofs.lemmas.List.{length-reverse, get_or-reverse}
 use Rattle.std.proofs.lemmas.List.Sorted.{IsPermutation-reverse, sum_by-IsPermutation}
 use Rattle.std.proofs.lemmas.List.Sums.{sum_by-append, sum_by-cons}
 use Rattle.pfc_core.specs.Marks.{Mark}
 use Rattle.pfc_read.specs.declared.segment.Segment.{Segment}
-use Rattle.pfc_read.specs.declared.segment.Found.{Found}
-use Rattle.pfc_read.specs.declared.segment.Pending.{Pending}
-use Rattle.pfc_read.specs.Segments.{Waiting, weigh, in_pending, in_found, in_owed, pin_in, disk_in}
+use Rattle.pfc_read.specs.Segments.{Waiting, weigh, in_pending, in_found, in_owed}
 
 pub All-reverse : {X : Type 0} (P : X → Type 0) (xs : List X) → All P xs → All P (reverse xs)
 All-reverse P xs all k d h =

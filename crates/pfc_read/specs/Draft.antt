@@ -8,7 +8,6 @@ use Rattle.pfc_span.specs.Tiling.{part_len}
 use Rattle.pfc_core.specs.declared.token.Decision.{Decision}
 use Rattle.pfc_core.specs.declared.token.Decision.TheVariants as d
 use Rattle.pfc_core.specs.Calls.{Decides, IsOf}
-use Rattle.pfc_core.specs.Leave.{LeaveView}
 use Rattle.pfc_core.specs.Marks.{TicketKind, PinKind, DiskKind, Mark}
 use Rattle.pfc_core.specs.View.{CoreView}
 use Rattle.pfc_read.specs.declared.segment.Source.{Source}

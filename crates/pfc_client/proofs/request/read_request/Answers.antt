@@ -1,4 +1,4 @@
-use Rattle.std.proofs.Common.{sym, subst, ◌∙◌, arith}
+use Rattle.std.proofs.Common.{sym, subst, ◌∙◌}
 use Rattle.pfc_base.specs.Number.{decimal_of}
 use Rattle.pfc_base.specs.Pieces.{pieces_of}
 use Rattle.pfc_client.specs.Requests.{few_pieces, request_of, OpensNothing}

@@ -1,6 +1,6 @@
 use Rattle.std.proofs.Common.{◌≡◌, ◌+◌, ◌++◌, ℕ, List, drop, get_or, sym, ap, ◌∙◌, arith, append_assoc}
 use Rattle.std.specs.List.{flat_map}
-use Rattle.std.proofs.lemmas.List.Sums.{sum_by_more, sum_by_more_le}
+use Rattle.std.proofs.lemmas.List.Sums.{sum_by_more}
 use Rattle.pfc_base.specs.Block.{slice_of}
 use Rattle.pfc_base.specs.declared.block.Piece.{Piece}
 use Rattle.pfc_span.specs.Pieces.{piece_len}

@@ -1,4 +1,4 @@
-use Rattle.std.proofs.Common.{◌++◌, sym, ap, ◌∙◌}
+use Rattle.std.proofs.Common.{◌++◌, ap, ◌∙◌}
 use Rattle.pfc_client.specs.Vectors.{vector_text}
 use Rattle.pfc_client.proofs.Vectors.{vector-told}
 use Rattle.pfc_client.proofs.vector.push_vector.Goals as goal

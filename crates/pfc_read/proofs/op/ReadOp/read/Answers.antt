@@ -1,4 +1,4 @@
-use Rattle.std.proofs.Common.{◌≡◌, ◌+◌, ◌*◌, ◌∙◌, IsTrue, length, sym, ap, subst}
+use Rattle.std.proofs.Common.{◌≡◌, ◌+◌, ◌*◌, ◌∙◌, length, sym, ap, subst}
 use Rattle.pfc_base.specs.declared.block.Part.{Part}
 use Rattle.pfc_world.specs.Files.{Holds}
 use Rattle.pfc_core.specs.Marks.{Mark}
